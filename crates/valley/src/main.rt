@@ -1,0 +1,21 @@
+// `valley FILE [SCRIPT]`: all boxes of a valley in one process, driven by a script.
+use std::env;
+use std::error::AnyError;
+
+const USE: &str = "use: valley FILE [SCRIPT]";
+
+fn run(rt: &LibcRuntime) -> Result<(), AnyError> {
+    let given = env::args(rt)?.skip(1).count();
+    if given < 1 || given > 2 {
+        return Err(USE.into());
+    }
+    Err("valley: not built yet".into())
+}
+
+fn main(rt: LibcRuntime) -> Result<(), AnyError> {
+    let done = run(&rt);
+    if let Err(e) = &done {
+        eprintln!(rt, "{e}")?;
+    }
+    done
+}
