@@ -1,0 +1,4 @@
+mod Words
+mod Decoded
+mod Sealed
+mod Carried
