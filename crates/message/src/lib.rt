@@ -15,6 +15,7 @@ pub use laws::packet_returns;
 pub use messages::Message;
 pub use messages::Outgoing;
 pub use messages::Phase;
+pub use messages::TOP_LEVEL;
 pub use messages::Unsent;
 pub use packets::Acknowledgement;
 pub use packets::Packet;

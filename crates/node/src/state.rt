@@ -1,0 +1,62 @@
+// What a node holds, and what comes of a message.
+use message::Message;
+use message::Refusal;
+
+// The most edges that a node can have.
+pub const SLOTS: usize = 16;
+
+#[derive(Clone, Copy, PartialEq, Eq)]
+pub enum Status {
+    Sleeping,
+    Find,
+    Found,
+}
+
+#[derive(Clone, Copy, PartialEq, Eq)]
+pub enum Mark {
+    Basic,
+    Branch,
+    Rejected,
+}
+
+// The lightest outgoing edge heard of at this level: its weight, and the node's own edge that leads to it; or none.
+#[derive(Clone, Copy, PartialEq, Eq)]
+pub enum Best {
+    Nothing,
+    Over { edge: usize, weight: u32 },
+}
+
+// `edges` of the sixteen places are in use. `find_count`: how many have still to report. `parent`: the edge towards
+// the core of the fragment. `testing`: the edge asked about. `halted`: it knows that the net is complete.
+#[derive(Clone, Copy, PartialEq, Eq)]
+pub struct Node {
+    pub status: Status,
+    pub edges: usize,
+    pub weights: [u32; SLOTS],
+    pub marks: [Mark; SLOTS],
+    pub level: u8,
+    pub name: u32,
+    pub find_count: u8,
+    pub parent: Option<usize>,
+    pub best: Best,
+    pub testing: Option<usize>,
+    pub halted: bool,
+}
+
+// At most one message over each edge.
+pub type Sends = [Option<Message>; SLOTS];
+
+// A node after a step, and what it sends.
+#[derive(Clone, Copy)]
+pub struct Turn {
+    pub node: Node,
+    pub sends: Sends,
+}
+
+// What comes of a message: it is taken; or put back behind the others of its edge; or turned away.
+#[derive(Clone, Copy)]
+pub enum Taking {
+    Taken(Turn),
+    Deferred(Node),
+    Refused(Node, Refusal),
+}
