@@ -54,7 +54,10 @@ impl Node {
         ensures { λ r. ⌜ r ≡ wakes self ⌝ }
     {
         if !matches!(self.status, Status::Sleeping) {
-            return Turn { node: self, sends: SILENT };
+            return Turn {
+                node: self,
+                sends: SILENT,
+            };
         }
         let lightest = self.lightest(true);
         self.status = Status::Found;
@@ -63,9 +66,15 @@ impl Node {
         match lightest {
             None => {
                 self.halted = true;
-                Turn { node: self, sends: SILENT }
+                Turn {
+                    node: self,
+                    sends: SILENT,
+                }
             }
-            Some(edge) => Turn { node: self.with_branch(edge), sends: send(SILENT, edge, Message::Connect { level: 0 }) },
+            Some(edge) => Turn {
+                node: self.with_branch(edge),
+                sends: send(SILENT, edge, Message::Connect { level: 0 }),
+            },
         }
     }
 
@@ -80,7 +89,10 @@ impl Node {
         let best = self.best.outgoing();
         match self.parent {
             None => Turn { node: self, sends },
-            Some(edge) => Turn { node: self, sends: send(sends, edge, Message::Report { best }) },
+            Some(edge) => Turn {
+                node: self,
+                sends: send(sends, edge, Message::Report { best }),
+            },
         }
     }
 
@@ -93,8 +105,14 @@ impl Node {
         match next {
             None => self.report_if_ready(sends),
             Some(edge) => {
-                let test = Message::Test { level: self.level, name: self.name };
-                Turn { node: self, sends: send(sends, edge, test) }
+                let test = Message::Test {
+                    level: self.level,
+                    name: self.name,
+                };
+                Turn {
+                    node: self,
+                    sends: send(sends, edge, test),
+                }
             }
         }
     }
@@ -104,10 +122,16 @@ impl Node {
         ensures { λ r. ⌜ r ≡ changes edge self ⌝ }
     {
         if matches!(self.mark(edge), Mark::Branch) {
-            return Turn { node: self, sends: send(SILENT, edge, Message::Change) };
+            return Turn {
+                node: self,
+                sends: send(SILENT, edge, Message::Change),
+            };
         }
         let connect = Message::Connect { level: self.level };
-        Turn { node: self.with_branch(edge), sends: send(SILENT, edge, connect) }
+        Turn {
+            node: self.with_branch(edge),
+            sends: send(SILENT, edge, connect),
+        }
     }
 
     // A fragment of a lower level joins this one.
@@ -125,8 +149,15 @@ impl Node {
             }
             Status::Found | Status::Sleeping => Phase::Found,
         };
-        let initiate = Message::Initiate { level: self.level, name: self.name, phase };
-        Taking::Taken(Turn { node: self.with_branch(edge), sends: send(SILENT, edge, initiate) })
+        let initiate = Message::Initiate {
+            level: self.level,
+            name: self.name,
+            phase,
+        };
+        Taking::Taken(Turn {
+            node: self.with_branch(edge),
+            sends: send(SILENT, edge, initiate),
+        })
     }
 
     // Two fragments of one level that chose the same edge become one of the next level, named by that edge.
@@ -139,14 +170,25 @@ impl Node {
         if self.level >= TOP_LEVEL {
             return Taking::Refused(self, Refusal::OutOfPlace);
         }
-        let initiate = Message::Initiate { level: self.level + 1, name: self.weight(edge), phase: Phase::Find };
-        Taking::Taken(Turn { node: self, sends: send(SILENT, edge, initiate) })
+        let initiate = Message::Initiate {
+            level: self.level + 1,
+            name: self.weight(edge),
+            phase: Phase::Find,
+        };
+        Taking::Taken(Turn {
+            node: self,
+            sends: send(SILENT, edge, initiate),
+        })
     }
 
     fn take_connect(self, edge: usize, level: u8) -> Taking
         ensures { λ r. ⌜ r ≡ takesConnect edge level self ⌝ }
     {
-        if level < self.level { self.absorb(edge) } else { self.merge(edge) }
+        if level < self.level {
+            self.absorb(edge)
+        } else {
+            self.merge(edge)
+        }
     }
 
     fn goes_on(self, from: usize, edge: usize) -> bool
@@ -203,13 +245,19 @@ impl Node {
             return Taking::Deferred(self);
         }
         if name != self.name {
-            return Taking::Taken(Turn { node: self, sends: send(SILENT, edge, Message::Accept) });
+            return Taking::Taken(Turn {
+                node: self,
+                sends: send(SILENT, edge, Message::Accept),
+            });
         }
         let node = self.reject(edge);
         if self.testing == Some(edge) {
             return Taking::Taken(node.test_next(SILENT));
         }
-        Taking::Taken(Turn { node, sends: send(SILENT, edge, Message::Reject) })
+        Taking::Taken(Turn {
+            node,
+            sends: send(SILENT, edge, Message::Reject),
+        })
     }
 
     fn take_accept(mut self, edge: usize) -> Taking
@@ -219,7 +267,8 @@ impl Node {
             return Taking::Refused(self, Refusal::OutOfPlace);
         }
         self.testing = None;
-        self.best = self.best.better_by(edge, Outgoing::Weight(self.weight(edge)));
+        self.best = self.best
+            .better_by(edge, Outgoing::Weight(self.weight(edge)));
         Taking::Taken(self.report_if_ready(SILENT))
     }
 
@@ -262,7 +311,10 @@ impl Node {
         if matches!(own, Outgoing::Nothing) && matches!(best, Outgoing::Nothing) {
             self.halted = true;
         }
-        Taking::Taken(Turn { node: self, sends: SILENT })
+        Taking::Taken(Turn {
+            node: self,
+            sends: SILENT,
+        })
     }
 
     // The rules, row by row. One that sleeps leaves the message until it is awake.
@@ -273,7 +325,12 @@ impl Node {
         match (message, self.status, from_parent) {
             (_, Status::Sleeping, _) => Taking::Deferred(self),
             (Message::Connect { level }, _, _) => self.take_connect(edge, level),
-            (Message::Initiate { level, name, phase }, _, _) => self.take_initiate(edge, level, name, phase),
+            (Message::Initiate { level, name, phase }, _, _) => self.take_initiate(
+                edge,
+                level,
+                name,
+                phase,
+            ),
             (Message::Test { level, name }, _, _) => self.take_test(edge, level, name),
             (Message::Accept, _, _) => self.take_accept(edge),
             (Message::Reject, _, _) => self.take_reject(edge),

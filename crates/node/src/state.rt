@@ -1,4 +1,9 @@
 // What a node holds, and what comes of a message.
+ghost use mathlib.Core.Path.{_≡_};
+ghost use Prim.Native.Nat.{_<_, _≤_};
+ghost use lib.ListN.{length};
+ghost use Rattle.std.specs.Options.{Cases};
+ghost use Rattle.node.specs.Rules.{fresh};
 use message::Message;
 use message::Refusal;
 
@@ -59,4 +64,33 @@ pub enum Taking {
     Taken(Turn),
     Deferred(Node),
     Refused(Node, Refusal),
+}
+
+impl Node {
+    // A sleeping node with edges of these weights; none where these are more than sixteen.
+    pub fn new(weights: &[u32]) -> Option<Node>
+        ensures { λ r. ⌜ Cases r (16 < length (now (weights .entry))) (λ n. (length (now (weights .entry)) ≤ 16) × (n ≡ fresh (now (weights .entry)))) ⌝ }
+    {
+        let edges = weights.len();
+        if edges > SLOTS {
+            return None;
+        }
+        let mut places = [0; SLOTS];
+        for (edge, weight) in weights.iter().enumerate() {
+            places[edge] = *weight;
+        }
+        Some(Node {
+            status: Status::Sleeping,
+            edges,
+            weights: places,
+            marks: [Mark::Basic; SLOTS],
+            level: 0,
+            name: 0,
+            find_count: 0,
+            parent: None,
+            best: Best::Nothing,
+            testing: None,
+            halted: false,
+        })
+    }
 }
