@@ -5,10 +5,16 @@ use std::error::AnyError;
 const USE: &str = "use: box I J:L J:L ..";
 
 fn run(rt: &LibcRuntime) -> Result<(), AnyError> {
-    if env::args(rt)?.skip(1).count() < 1 {
-        return Err(USE.into());
+    match env::args(rt)?.nth(1) {
+        None => Err(USE.into()),
+        Some(word) => if word.as_str() == "--help" {
+            println!(rt, "box: the box of one house")?;
+            println!(rt, "{USE}")?;
+            Ok(())
+        } else {
+            Err("box: not built yet".into())
+        },
     }
-    Err("box: not built yet".into())
 }
 
 fn main(rt: LibcRuntime) -> Result<(), AnyError> {

@@ -1,15 +1,20 @@
-// `valley FILE [SCRIPT]`: all boxes of a valley in one process, driven by a script.
+// `valley FILE [SCRIPT]`: all boxes of a valley, driven by a script.
 use std::env;
 use std::error::AnyError;
 
 const USE: &str = "use: valley FILE [SCRIPT]";
 
 fn run(rt: &LibcRuntime) -> Result<(), AnyError> {
-    let given = env::args(rt)?.skip(1).count();
-    if given < 1 || given > 2 {
-        return Err(USE.into());
+    match env::args(rt)?.nth(1) {
+        None => Err(USE.into()),
+        Some(word) => if word.as_str() == "--help" {
+            println!(rt, "valley: all boxes of a valley, driven by a script")?;
+            println!(rt, "{USE}")?;
+            Ok(())
+        } else {
+            Err("valley: not built yet".into())
+        },
     }
-    Err("valley: not built yet".into())
 }
 
 fn main(rt: LibcRuntime) -> Result<(), AnyError> {
