@@ -1,6 +1,6 @@
 -- Sixteen places filled from the front.
-use mathlib.Core.Path.{_≡_, refl, sym, ap, _∙_}
-use mathlib.Core.List.{List, [], _∷_, _++_, append-assoc}
+use mathlib.Core.Path.{_≡_, _∙_}
+use mathlib.Core.List.{List, _∷_, _++_, append-assoc}
 use Prim.Native.Nat.{ℕ, suc, _+_, _-_, _<_, _≤_}
 use native.Mathlib.Omega.{arith}
 use lib.ListN.{length, getD, set, take, replicate}
@@ -10,7 +10,7 @@ pub placed : (ws : List ℕ) (i y : ℕ) → i < length ws → length ws ≤ 16 
     set (take i ws ++ replicate (16 - i) 0) i y ≡ take (i + 1) ws ++ replicate (16 - (i + 1)) 0
 placed ws i y lt le e =
     let n : 16 - i ≡ suc (16 - (i + 1)) = omega arith in
-    let rest = replicate (16 - (i + 1)) 0 in
+    let rest : List ℕ = replicate (16 - (i + 1)) 0 in
     let size : length (take i ws) ≡ i = omega (arith, length-take i ws) in
     let none : i - i ≡ 0 = omega arith in
     let here : set (take i ws ++ (0 ∷ rest)) i y ≡ take i ws ++ (y ∷ rest) =

@@ -1,2 +1,3 @@
+-- What a node does, and what it promises.
 pub mod Rules
 pub mod Laws

@@ -1,6 +1,5 @@
 // A node's edges: their marks and weights, and which is the lightest.
 ghost use mathlib.Core.Path.{_≡_};
-ghost use lib.ListN.{set};
 ghost use Rattle.node.specs.Rules.{hasEdge, markOf, weightOf, sending, branching, rejecting, lightest, lighterOf, picks, lighter};
 use super::state::Mark;
 use super::state::Node;

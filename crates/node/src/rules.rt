@@ -1,9 +1,6 @@
 // What a node does when it wakes, and with each message.
 ghost use mathlib.Core.Path.{_≡_};
-ghost use Rattle.std.specs.Options.{Cases};
-ghost use Prim.Native.Nat.{_<_, _≤_};
-ghost use lib.ListN.{length};
-ghost use Rattle.node.specs.Rules.{wakes, reports, tests, changes, changesBy, goesOn, onward, branchesBut, betterBy, absorbs, merges, takesConnect, takesInitiate, takesTest, takesAccept, takesReject, takesChildReport, decides, follows, takes, fresh, bestWeight};
+ghost use Rattle.node.specs.Rules.{wakes, reports, tests, changes, changesBy, goesOn, onward, branchesBut, betterBy, absorbs, merges, takesConnect, takesInitiate, takesTest, takesAccept, takesReject, takesChildReport, decides, follows, takes, bestWeight};
 use super::edges::is_lighter;
 use super::edges::send;
 use super::state::Best;
@@ -71,10 +68,13 @@ impl Node {
                     sends: SILENT,
                 }
             }
-            Some(edge) => Turn {
-                node: self.with_branch(edge),
-                sends: send(SILENT, edge, Message::Connect { level: 0 }),
-            },
+            Some(edge) => {
+                let node = self.with_branch(edge);
+                Turn {
+                    node,
+                    sends: send(SILENT, edge, Message::Connect { level: 0 }),
+                }
+            }
         }
     }
 
@@ -184,7 +184,8 @@ impl Node {
     fn take_connect(self, edge: usize, level: u8) -> Taking
         ensures { λ r. ⌜ r ≡ takesConnect edge level self ⌝ }
     {
-        if level < self.level {
+        let is_lower = level < self.level;
+        if is_lower {
             self.absorb(edge)
         } else {
             self.merge(edge)
