@@ -1,0 +1,19 @@
+-- How many edges a graph has.
+use mathlib.Core.Bool.{cond}
+use Prim.Native.Nat.{ℕ, zero, suc, _+_}
+use lib.Dec.{leb}
+use Rattle.graph.specs.Graph.{Graph}
+
+-- how many edges node a has to nodes below k
+unfoldable pub edgesBelow : Graph → ℕ → ℕ → ℕ
+edgesBelow g a zero = 0
+edgesBelow g a (suc k) = cond (leb 1 (g .weight a k)) 1 0 + edgesBelow g a k
+
+-- how many edges there are among the first n nodes: each is counted once, at its end of the greater number
+unfoldable pub edgesAmong : Graph → ℕ → ℕ
+edgesAmong g zero = 0
+edgesAmong g (suc n) = edgesBelow g n n + edgesAmong g n
+
+-- how many edges there are
+abbrev pub edgeCount : Graph → ℕ
+edgeCount g = edgesAmong g (g .count)

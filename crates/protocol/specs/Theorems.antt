@@ -1,0 +1,46 @@
+-- What is promised of every net that can be reached. Each is a type; a proof of the type is the theorem. Nothing here assumes that all nodes can be joined.
+use mathlib.Core.Path.{_≡_}
+use mathlib.Core.Bool.{Bool, true, cond}
+use Prim.Native.Nat.{ℕ, zero, suc, _+_, _*_, _^_, _<_, _≤_}
+use lib.ListN.{length}
+use Rattle.node.specs.declared.state.Mark.the-variants.{Basic, Branch, Rejected}
+use Rattle.node.specs.Rules.{markOf}
+use Rattle.graph.specs.Graph.{Graph, Joined, Weights, Belongs}
+use Rattle.protocol.specs.Net.{Near, Placed, neighbour, Net, Reach, Run}
+use Rattle.protocol.specs.Count.{edgeCount}
+
+-- At every moment: an edge that is a branch, as either end sees it, belongs to the least net, and one that is rejected does not.
+abbrev pub AlwaysRight : Type 0
+AlwaysRight =
+    (g : Graph) → Weights g → (near : Near) → Placed g near → (n : Net) → Reach g near n → (i k : ℕ) → i < g .count → k < length (near i) →
+    (markOf (n .node i) k ≡ Branch → Belongs g i (neighbour near i k)) × (markOf (n .node i) k ≡ Rejected → Belongs g i (neighbour near i k) → ⊥)
+
+-- THE END. When some node has halted: of the edges of all nodes that can be joined with it just those that belong are branches, as either end sees it, and none is basic.
+abbrev pub Main : Type 0
+Main =
+    (g : Graph) → Weights g → (near : Near) → Placed g near → (n : Net) → Reach g near n → (h : ℕ) → h < g .count → n .node h .halted ≡ true →
+    (x u k : ℕ) → Joined g u h x → k < length (near x) →
+    (markOf (n .node x) k ≡ Branch → Belongs g x (neighbour near x k)) × (Belongs g x (neighbour near x k) → markOf (n .node x) k ≡ Branch) × (markOf (n .node x) k ≡ Basic → ⊥)
+
+-- And then nothing changes: whatever steps come, these marks stay as they are.
+abbrev pub Rests : Type 0
+Rests =
+    (g : Graph) → Weights g → (near : Near) → Placed g near → (n : Net) → Reach g near n → (h : ℕ) → h < g .count → n .node h .halted ≡ true →
+    (m : Net) → Run g near n m → (x u k : ℕ) → Joined g u h x → k < length (near x) → markOf (m .node x) k ≡ markOf (n .node x) k
+
+-- how many nodes below n are in a set
+unfoldable pub members : (ℕ → Bool) → ℕ → ℕ
+members C zero = 0
+members C (suc n) = cond (C n) 1 0 + members C n
+
+-- Two to the power of a node's level is at most the number of nodes that it can be joined with: of any set that holds all of these.
+abbrev pub LevelsLow : Type 0
+LevelsLow =
+    (g : Graph) → Weights g → (near : Near) → Placed g near → (n : Net) → Reach g near n → (i : ℕ) → i < g .count →
+    (C : ℕ → Bool) → ((x u : ℕ) → Joined g u i x → C x ≡ true) → 2 ^ n .node i .level ≤ members C (g .count)
+
+-- Few messages: with fewer than two to the power k + 1 nodes, those ever sent are at most five for each node and level, and two for each edge.
+abbrev pub FewMessages : Type 0
+FewMessages =
+    (g : Graph) → Weights g → (near : Near) → Placed g near → (k : ℕ) → g .count < 2 ^ suc k → (n : Net) → Reach g near n →
+    n .count ≤ 5 * (g .count * (k + 1)) + 2 * edgeCount g

@@ -1,0 +1,37 @@
+// The protocol as a whole: nets of nodes, and what is proved of every net that can be reached.
+ghost use Rattle.protocol.specs.Theorems.{AlwaysRight, Main, Rests, LevelsLow, FewMessages};
+
+// A branch belongs to the least net, and a rejected edge does not, at every moment.
+pub fn always_right() -> u8
+    ensures { λ _. ⌜ AlwaysRight ⌝ }
+{
+    0
+}
+
+// When some node has halted, just the edges that belong are branches, of all nodes that can be joined with it.
+pub fn main_theorem() -> u8
+    ensures { λ _. ⌜ Main ⌝ }
+{
+    0
+}
+
+// And from then on no mark of these nodes changes.
+pub fn rests() -> u8
+    ensures { λ _. ⌜ Rests ⌝ }
+{
+    0
+}
+
+// A node's level is low: two to its power is at most the number of nodes that it can be joined with.
+pub fn levels_low() -> u8
+    ensures { λ _. ⌜ LevelsLow ⌝ }
+{
+    0
+}
+
+// The messages ever sent are at most five for each node and level, and two for each edge.
+pub fn few_messages() -> u8
+    ensures { λ _. ⌜ FewMessages ⌝ }
+{
+    0
+}
