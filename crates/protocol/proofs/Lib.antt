@@ -76,3 +76,4 @@ pub mod Invariant
 pub mod Levels
 pub mod Reaches
 pub mod Complete
+pub mod Queued

@@ -44,3 +44,9 @@ abbrev pub FewMessages : Type 0
 FewMessages =
     (g : Graph) → Weights g → (near : Near) → Placed g near → (k : ℕ) → g .count < 2 ^ suc k → (n : Net) → Reach g near n →
     n .count ≤ 5 * (g .count * (k + 1)) + 2 * edgeCount g
+
+-- Queues are short: with fewer than two to the power k + 1 nodes, at most k + 3 messages are under way from one node to another at any moment.
+abbrev pub ShortQueues : Type 0
+ShortQueues =
+    (g : Graph) → Weights g → (near : Near) → Placed g near → (k : ℕ) → g .count < 2 ^ suc k → (n : Net) → Reach g near n →
+    (i j : ℕ) → length (n .way i j) ≤ k + 3

@@ -1,5 +1,5 @@
 // The protocol as a whole: nets of nodes, and what is proved of every net that can be reached.
-ghost use Rattle.protocol.specs.Theorems.{AlwaysRight, Main, Rests, LevelsLow, FewMessages};
+ghost use Rattle.protocol.specs.Theorems.{AlwaysRight, Main, Rests, LevelsLow, FewMessages, ShortQueues};
 
 // A branch belongs to the least net, and a rejected edge does not, at every moment.
 pub fn always_right() -> u8
@@ -32,6 +32,13 @@ pub fn levels_low() -> u8
 // The messages ever sent are at most five for each node and level, and two for each edge.
 pub fn few_messages() -> u8
     ensures { λ _. ⌜ FewMessages ⌝ }
+{
+    0
+}
+
+// Every queue is short: eleven messages at most where there are 256 nodes.
+pub fn short_queues() -> u8
+    ensures { λ _. ⌜ ShortQueues ⌝ }
 {
     0
 }
