@@ -63,7 +63,7 @@ queue-else j i q w a b z = grind arith
 queue-here : (j i : ℕ) (q : List Message) (w : ℕ → ℕ → List Message) → queueing j i q w j i ≡ q
 queue-here j i q w = grind arith
 
-queue-has : (j i : ℕ) (q : List Message) (w : ℕ → ℕ → List Message) → ((x : Message) → Has q x → Has (w j i) x) → (a b : ℕ) (x : Message) → Has (queueing j i q w a b) x → Has (w a b) x
+pub queue-has : (j i : ℕ) (q : List Message) (w : ℕ → ℕ → List Message) → ((x : Message) → Has q x → Has (w j i) x) → (a b : ℕ) (x : Message) → Has (queueing j i q w a b) x → Has (w a b) x
 queue-has j i q w f a b x h = elim (both a b j i) [
   | inl u ↦ let v : queueing j i q w a b ≡ q = grind arith in rw (u .0, u .1) (f x (subst (λ r. Has r x) v h))
   | inr z ↦ subst (λ r. Has r x) (queue-else j i q w a b z) h
@@ -99,7 +99,7 @@ module _ (g : Graph) (near : Near) (n : Net) (i : ℕ) (t : Turn) (way : ℕ →
     | inr u ↦ inl (subst (λ r. Has r x) (keeps a c (u .1)) h)
   ]
 
-left-has : (p r : List Message) (m x : Message) → p ≡ m ∷ r → Has r x → Has p x
+pub left-has : (p r : List Message) (m x : Message) → p ≡ m ∷ r → Has r x → Has p x
 left-has p r m x e h = rw e (inr h)
 
 unsent : (v : Option Message) → ((m : Message) → v ≡ Some m → ⊥) → v ≡ None
@@ -122,7 +122,7 @@ counted g near i n s t inp b st =
     beyond : (k : ℕ) → length (near i) ≤ k → (m : Message) → sentOver (t .sends) k ≡ Some m → ⊥
     beyond k l m e = let z = within-edges n t st (s .within) .2 k m e in let y = inside-of g i (near i) n s k z in omega arith
 
-off-has : (front back : List Message) (m : Message) (w : ℕ → ℕ → List Message) (j i : ℕ) → w j i ≡ m ∷ (front ++ back) → (z : Message) → Has (front ++ (m ∷ back)) z → Has (w j i) z
+pub off-has : (front back : List Message) (m : Message) (w : ℕ → ℕ → List Message) (j i : ℕ) → w j i ≡ m ∷ (front ++ back) → (z : Message) → Has (front ++ (m ∷ back)) z → Has (w j i) z
 off-has front back m w j i q z y = rw q (has-off front back m z y)
 
 pub event : {g : Graph} {near : Near} {n m : Net} → Shaped g near n → Step g near n m → Event g (lift near n) (lift near m)

@@ -77,3 +77,6 @@ pub mod Levels
 pub mod Reaches
 pub mod Complete
 pub mod Queued
+pub mod Everywhere
+pub mod Sounds
+pub mod Strays

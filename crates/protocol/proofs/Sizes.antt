@@ -38,7 +38,7 @@ one-at-least f n i l h = let s = sum-le (at i 1) (λ k. 0) f (λ k. 0) n (λ k m
 pub sizes-start : (t : Graph) → Sizes t first
 sizes-start t i l = one-at-least (λ a. is i a) (t .count) i l (let z : eqb i i ≡ true = grind arith in grind arith)
 
-at-most : (f : ℕ → ℕ) (n : ℕ) → ((k : ℕ) → f k ≤ 1) → sum f n ≤ n
+pub at-most : (f : ℕ → ℕ) (n : ℕ) → ((k : ℕ) → f k ≤ 1) → sum f n ≤ n
 unfolding sum
 at-most f zero h = omega arith
 at-most f (suc n) h = let ih = at-most f n h in let e = h n in omega arith

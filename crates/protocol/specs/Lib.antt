@@ -1,3 +1,4 @@
 pub mod Net
 pub mod Count
 pub mod Theorems
+pub mod Whole

@@ -1,10 +1,15 @@
 -- What is promised of every net that can be reached. Each is a type; a proof of the type is the theorem. Nothing here assumes that all nodes can be joined.
 use mathlib.Core.Path.{_≡_}
 use mathlib.Core.Bool.{Bool, true, cond}
+use mathlib.Core.List.{List, _∷_}
 use Prim.Native.Nat.{ℕ, zero, suc, _+_, _*_, _^_, _<_, _≤_}
 use lib.ListN.{length}
+use Rattle.message.specs.declared.refusals.Refusal.{Refusal}
+use Rattle.message.specs.declared.messages.Message.{Message}
+use Rattle.node.specs.declared.state.Node.{Node}
+use Rattle.node.specs.declared.state.Taking.the-variants.{Refused}
 use Rattle.node.specs.declared.state.Mark.the-variants.{Basic, Branch, Rejected}
-use Rattle.node.specs.Rules.{markOf}
+use Rattle.node.specs.Rules.{markOf, takes}
 use Rattle.graph.specs.Graph.{Graph, Joined, Weights, Belongs}
 use Rattle.protocol.specs.Net.{Near, Placed, neighbour, Net, Reach, Run}
 use Rattle.protocol.specs.Count.{edgeCount}
@@ -50,3 +55,9 @@ abbrev pub ShortQueues : Type 0
 ShortQueues =
     (g : Graph) → Weights g → (near : Near) → Placed g near → (k : ℕ) → g .count < 2 ^ suc k → (n : Net) → Reach g near n →
     (i j : ℕ) → length (n .way i j) ≤ k + 3
+
+-- No message is ever refused: with at most 256 nodes, a node takes or defers whatever stands at the head of a queue to it.
+abbrev pub NoStray : Type 0
+NoStray =
+    (g : Graph) → Weights g → g .count ≤ 256 → (near : Near) → Placed g near → (n : Net) → Reach g near n → (i k : ℕ) (m : Message) (rest : List Message) (o : Node) (r : Refusal) →
+    i < g .count → k < length (near i) → n .way (neighbour near i k) i ≡ m ∷ rest → takes k m (n .node i) ≡ Refused o r → ⊥

@@ -1,5 +1,6 @@
 // The protocol as a whole: nets of nodes, and what is proved of every net that can be reached.
-ghost use Rattle.protocol.specs.Theorems.{AlwaysRight, Main, Rests, LevelsLow, FewMessages, ShortQueues};
+ghost use Rattle.protocol.specs.Theorems.{AlwaysRight, Main, Rests, LevelsLow, FewMessages, ShortQueues, NoStray};
+ghost use Rattle.protocol.specs.Whole.{WholeMain, WholeRests, WholeLevels};
 
 // A branch belongs to the least net, and a rejected edge does not, at every moment.
 pub fn always_right() -> u8
@@ -39,6 +40,34 @@ pub fn few_messages() -> u8
 // Every queue is short: eleven messages at most where there are 256 nodes.
 pub fn short_queues() -> u8
     ensures { λ _. ⌜ ShortQueues ⌝ }
+{
+    0
+}
+
+// No message is ever refused, in a graph of at most 256 nodes.
+pub fn no_stray() -> u8
+    ensures { λ _. ⌜ NoStray ⌝ }
+{
+    0
+}
+
+// The end, where all nodes can be joined.
+pub fn whole_main() -> u8
+    ensures { λ _. ⌜ WholeMain ⌝ }
+{
+    0
+}
+
+// Rest, where all nodes can be joined.
+pub fn whole_rests() -> u8
+    ensures { λ _. ⌜ WholeRests ⌝ }
+{
+    0
+}
+
+// Levels, by the number of all nodes.
+pub fn whole_levels() -> u8
+    ensures { λ _. ⌜ WholeLevels ⌝ }
 {
     0
 }
