@@ -9,6 +9,8 @@ use Rattle.protocol.proofs.Asleep.{Alones, alones-start, alones-step, fresh-of
 use Rattle.protocol.proofs.Base.{Good, good-start, good-step}
 use Rattle.protocol.proofs.Belonging.{Belonging, belonging-start, belonging-kept}
 use Rattle.protocol.proofs.Bests.{Bests, bests-start, knows-of, bests}
+use Rattle.protocol.proofs.Busy.{Busy, busy-start, busy-step}
+use Rattle.protocol.proofs.Exchange.{Exchanges, exchanges-start, exchanges-step}
 use Rattle.protocol.proofs.Charged.{Charged, charged-start, charged-step}
 use Rattle.protocol.proofs.Control.{control}
 use Rattle.protocol.proofs.CoreEdge.{CoreEdges, core-start, core-step}
@@ -56,6 +58,8 @@ pub record Inv (t : Graph) (n : Lifted) (γ : Ghost) : Type 0 where
   pub cores : CoreEdges t n γ
   pub belonging : Belonging t n
   pub charged : Charged t n γ
+  pub busy : (a : ℕ) → Busy (n .held a)
+  pub exchanges : Exchanges t n γ
 
 module _ (t : Graph) (weights : Weights t) where
   module _ (n : Lifted) (γ : Ghost) (I : Inv t n γ) where
@@ -99,6 +103,8 @@ module _ (t : Graph) (weights : Weights t) where
         cores = core-start t;
         belonging = belonging-start t;
         charged = charged-start t;
+        busy = busy-start;
+        exchanges = exchanges-start t;
       }
 
   module _ (n m : Lifted) (γ : Ghost) (I : Inv t n γ) (v : Event t n m) where
@@ -130,4 +136,6 @@ module _ (t : Graph) (weights : Weights t) where
           cores = core-step t weights n m γ (I .good) (I .sane) (lone-of t weights n γ (I .alones)) (I .edges) (I .cores) v;
           belonging = belonging-kept t weights n m γ trust (I .outward) v (I .belonging);
           charged = charged-step t weights n m γ (I .good) r (I .edges) (I .talks) (I .alones) (I .charged) v;
+          busy = busy-step v (I .busy);
+          exchanges = exchanges-step t weights n m γ (I .good) (I .sane) (I .edges) (I .bests) (I .exchanges) v;
         }

@@ -70,9 +70,16 @@ pub mod Charged
 pub mod Resting
 pub mod Ended
 pub mod Ending
+pub mod Underway
+pub mod Busy
+pub mod Pending
+pub mod Tips
+pub mod Exchange
+pub mod Stuck
 pub mod Raised
 pub mod SaneStep
 pub mod Invariant
+pub mod Unstuck
 pub mod Levels
 pub mod Reaches
 pub mod Complete
@@ -80,3 +87,4 @@ pub mod Queued
 pub mod Everywhere
 pub mod Sounds
 pub mod Strays
+pub mod Moving

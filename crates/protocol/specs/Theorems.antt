@@ -1,16 +1,16 @@
 -- What is promised of every net that can be reached. Each is a type; a proof of the type is the theorem. Nothing here assumes that all nodes can be joined.
 use mathlib.Core.Path.{_≡_}
-use mathlib.Core.Bool.{Bool, true, cond}
-use mathlib.Core.List.{List, _∷_}
+use mathlib.Core.Bool.{Bool, true, false, cond}
+use mathlib.Core.List.{List, _∷_, _++_}
 use Prim.Native.Nat.{ℕ, zero, suc, _+_, _*_, _^_, _<_, _≤_}
 use lib.ListN.{length}
 use Rattle.message.specs.declared.refusals.Refusal.{Refusal}
 use Rattle.message.specs.declared.messages.Message.{Message}
 use Rattle.node.specs.declared.state.Node.{Node}
-use Rattle.node.specs.declared.state.Taking.the-variants.{Refused}
+use Rattle.node.specs.declared.state.Taking.the-variants.{Deferred, Refused}
 use Rattle.node.specs.declared.state.Mark.the-variants.{Basic, Branch, Rejected}
-use Rattle.node.specs.Rules.{markOf, takes}
-use Rattle.graph.specs.Graph.{Graph, Joined, Weights, Belongs}
+use Rattle.node.specs.Rules.{isSleeping, markOf, takes}
+use Rattle.graph.specs.Graph.{Graph, Edge, Joined, Weights, Belongs}
 use Rattle.protocol.specs.Net.{Near, Placed, neighbour, Net, Reach, Run}
 use Rattle.protocol.specs.Count.{edgeCount}
 
@@ -61,3 +61,19 @@ abbrev pub NoStray : Type 0
 NoStray =
     (g : Graph) → Weights g → g .count ≤ 256 → (near : Near) → Placed g near → (n : Net) → Reach g near n → (i k : ℕ) (m : Message) (rest : List Message) (o : Node) (r : Refusal) →
     i < g .count → k < length (near i) → n .way (neighbour near i k) i ≡ m ∷ rest → takes k m (n .node i) ≡ Refused o r → ⊥
+
+-- a set of nodes that no edge leads out of
+pub record Closed (g : Graph) (C : ℕ → Bool) : Type 0 where
+  pub nodes : (x : ℕ) → C x ≡ true → x < g .count
+  pub closed : (x y : ℕ) → C x ≡ true → Edge g x y → C y ≡ true
+
+-- of these nodes none sleeps, and every message under way to one of them, wherever it stands in its queue, would be deferred
+pub record Waiting (near : Near) (n : Net) (C : ℕ → Bool) : Type 0 where
+  pub awake : (x : ℕ) → C x ≡ true → isSleeping (n .node x .status) ≡ false
+  pub deferred : (x k : ℕ) (m : Message) (front back : List Message) → C x ≡ true → k < length (near x) → n .way (neighbour near x k) x ≡ front ++ (m ∷ back) → takes k m (n .node x) ≡ Deferred (n .node x)
+
+-- NEVER STUCK. Where nobody sleeps and no message can be taken, of some nodes that no edge leads out of, one of them has halted.
+abbrev pub NeverStuck : Type 0
+NeverStuck =
+    (g : Graph) → Weights g → (near : Near) → Placed g near → (n : Net) → Reach g near n → (C : ℕ → Bool) → Closed g C → Waiting near n C →
+    (x : ℕ) → C x ≡ true → (h : ℕ) × (C h ≡ true) × (n .node h .halted ≡ true)
