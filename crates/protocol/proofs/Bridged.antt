@@ -36,11 +36,6 @@ module _ (g : Graph) (i : ℕ) (near : List ℕ) (n : Node) (s : Shape g i near 
   abbrev k : Held
   k = heldOf near n
 
-  not-basic : (d : Mark) → isBasic d ≡ false → d ≡ Basic → ⊥
-  not-basic Basic e u = grind arith
-  not-basic Branch e u = grind arith
-  not-basic Rejected e u = grind arith
-
   awake-not : (x : Status) → isFind x ≡ false → x ≡ Find → ⊥
   awake-not x e u = let z : isFind Find ≡ false = subst (λ v. isFind v ≡ false) u e in grind arith
 
@@ -89,7 +84,7 @@ module _ (g : Graph) (i : ℕ) (near : List ℕ) (n : Node) (s : Shape g i near 
   took-bridged j _ _ e (merged l a b c) =
       let p = inside-of g i near n s j e in
       back-bridged g i near n s inside (got (at j) (Connect l)) n k j (Initiate (n .level + 1) (weightOf n j) phase.Find) p refl
-      (subst (λ v. Deed g i k (got (at j) (Connect l)) k (one (at j) (Initiate (n .level + 1) v phase.Find))) (sym (s .weigh j p)) (Merges a (λ u. not-basic (markOf n j) b (sym (marked g i near n s j p) ∙ u))))
+      (subst (λ v. Deed g i k (got (at j) (Connect l)) k (one (at j) (Initiate (n .level + 1) v phase.Find))) (sym (s .weigh j p)) (Merges (omega arith) (λ u. let q = marked g i near n s j p in grind arith)))
   took-bridged j _ _ e (joinedFinding l f a) = search-bridged g i near n s inside j l f e
   took-bridged j _ _ e (joinedFound l f) =
       let p = inside-of g i near n s j e in
@@ -100,10 +95,10 @@ module _ (g : Graph) (i : ℕ) (near : List ℕ) (n : Node) (s : Shape g i near 
         below = below-++ (g .count) (onward k (at j) (Initiate l f phase.Found) (g .count)) [] (below-onward k (at j) (Initiate l f phase.Found) (g .count) (g .count) (omega arith)) tt;
         sent = sent-onward g i near n s inside j (Initiate l f phase.Found) p;
       }
-  took-bridged j _ _ e (accepts l f a b) = back-bridged g i near n s inside (got (at j) (Test l f)) n k j Accept (inside-of g i near n s j e) refl (Accepts a (λ u. grind arith))
+  took-bridged j _ _ e (accepts l f a b) = back-bridged g i near n s inside (got (at j) (Test l f)) n k j Accept (inside-of g i near n s j e) refl (Accepts (omega arith) (λ u. grind arith))
   took-bridged j _ _ e (rejects l f a b c) =
       let p = inside-of g i near n s j e in
-      back-bridged g i near n s inside (got (at j) (Test l f)) (rules.rejecting j n) (rejecting (at j) k) j Reject p (held-rejecting g i near n s j p) (Rejects a b (no-edge g i near n s inside (n .testing) j (s .within .testingThere) p c))
+      back-bridged g i near n s inside (got (at j) (Test l f)) (rules.rejecting j n) (rejecting (at j) k) j Reject p (held-rejecting g i near n s j p) (Rejects (omega arith) (omega arith) (no-edge g i near n s inside (n .testing) j (s .within .testingThere) p c))
   took-bridged j _ _ e (testsOn l f a b c) =
       let y = yes-edge g i near n s inside (n .testing) j c in
       reject-bridged g i near n s inside (got (at j) (Test l f)) j e (λ m q. Crosses-ask m a b y q) (λ z q. Crosses-report a b y z q refl) (λ z q. Crosses-wait a b y z q)

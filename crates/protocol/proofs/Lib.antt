@@ -88,3 +88,4 @@ pub mod Everywhere
 pub mod Sounds
 pub mod Strays
 pub mod Moving
+pub mod Rejections

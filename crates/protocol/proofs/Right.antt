@@ -15,7 +15,7 @@ use Rattle.protocol.proofs.Edges.{Edges}
 use Rattle.protocol.proofs.Frame.{Lifted}
 use Rattle.protocol.proofs.Ghost.{Ghost, View}
 use Rattle.protocol.proofs.Inside.{Inside, itself, via, Insides}
-use Rattle.protocol.proofs.Mode.{tells, Mode, free, offered, offers, crossing, took, taken, merged, ahead, behind, core, told, above, below}
+use Rattle.protocol.proofs.Mode.{tells, Free, Mode, free, offered, offers, crossing, took, taken, merged, ahead, behind, core, told, above, below}
 
 -- what a node's marks say of its edges is so
 abbrev pub Right : Graph → Lifted → Type 0
@@ -27,22 +27,22 @@ not-basic e f = grind arith
 not-branch : {k : Mark} → k ≡ Branch → k ≡ Rejected → ⊥
 not-branch e f = grind arith
 
--- the two ends of a rejected edge are of one fragment
-pub rejected-inside : {x y w : ℕ} {A B : View} {p q : List Message} → Mode x y w A B p q → A .held .mark y ≡ Rejected → A .own .label ≡ B .own .label
-rejected-inside (free v) e = v .rejectedA e
-rejected-inside (offered v) e = absurd (not-basic (v .markA) e)
-rejected-inside (offers v) e = absurd (not-branch (v .markB) e)
-rejected-inside (crossing v) e = absurd (not-branch (v .markA) e)
-rejected-inside (took v) e = absurd (not-branch (v .joint .markA) e)
-rejected-inside (taken v) e = absurd (not-branch (v .joint .markB) e)
-rejected-inside (merged v) e = absurd (not-branch (v .joint .markA) e)
-rejected-inside (ahead v) e = absurd (not-branch (v .joint .markA) e)
-rejected-inside (behind v) e = absurd (not-branch (v .joint .markB) e)
-rejected-inside (core v) e = absurd (not-branch (v .markA) e)
-rejected-inside (tells v) e = absurd (not-branch (v .markA) e)
-rejected-inside (told v) e = absurd (not-branch (v .markB) e)
-rejected-inside (above v) e = absurd (not-branch (v .markA) e)
-rejected-inside (below v) e = absurd (not-branch (v .markB) e)
+-- a rejected edge is free: no branch at either end, and its ends are of one fragment
+pub rejected-free : {x y w : ℕ} {A B : View} {p q : List Message} → Mode x y w A B p q → A .held .mark y ≡ Rejected → Free x y w A B p q
+rejected-free (free v) e = v
+rejected-free (offered v) e = absurd (not-basic (v .markA) e)
+rejected-free (offers v) e = absurd (not-branch (v .markB) e)
+rejected-free (crossing v) e = absurd (not-branch (v .markA) e)
+rejected-free (took v) e = absurd (not-branch (v .joint .markA) e)
+rejected-free (taken v) e = absurd (not-branch (v .joint .markB) e)
+rejected-free (merged v) e = absurd (not-branch (v .joint .markA) e)
+rejected-free (ahead v) e = absurd (not-branch (v .joint .markA) e)
+rejected-free (behind v) e = absurd (not-branch (v .joint .markB) e)
+rejected-free (core v) e = absurd (not-branch (v .markA) e)
+rejected-free (tells v) e = absurd (not-branch (v .markA) e)
+rejected-free (told v) e = absurd (not-branch (v .markB) e)
+rejected-free (above v) e = absurd (not-branch (v .markA) e)
+rejected-free (below v) e = absurd (not-branch (v .markB) e)
 
 -- a way over branches inside a fragment does not take an edge that one end has rejected
 pub detour : {t : Graph} {n : Lifted} {γ : Ghost} {a b : ℕ} → Belonging t n → n .held a .mark b ≡ Rejected → {x y : ℕ} → Inside t n γ x y → Detour t a b x y
@@ -58,4 +58,4 @@ pub right : (t : Graph) → Weights t → (n : Lifted) (γ : Ghost) → Edges t 
 right t weights n γ E I H a b l = (H a b, rejected)
   where
     rejected : n .held a .mark b ≡ Rejected → Belongs t a b → ⊥
-    rejected e = cycle t weights a b l (detour H e (I a b (l .0) (l .1) (rejected-inside (E a b l) e))) .1
+    rejected e = cycle t weights a b l (detour H e (I a b (l .0) (l .1) (rejected-free (E a b l) e .rejectedA e))) .1

@@ -6,6 +6,7 @@ use Prim.Native.Nat.{ℕ, zero, suc, _+_, _*_, _^_, _<_, _≤_}
 use lib.ListN.{length}
 use Rattle.message.specs.declared.refusals.Refusal.{Refusal}
 use Rattle.message.specs.declared.messages.Message.{Message}
+use Rattle.message.specs.declared.messages.Message.the-variants.{Connect}
 use Rattle.node.specs.declared.state.Node.{Node}
 use Rattle.node.specs.declared.state.Taking.the-variants.{Deferred, Refused}
 use Rattle.node.specs.declared.state.Mark.the-variants.{Basic, Branch, Rejected}
@@ -61,6 +62,12 @@ abbrev pub NoStray : Type 0
 NoStray =
     (g : Graph) → Weights g → g .count ≤ 256 → (near : Near) → Placed g near → (n : Net) → Reach g near n → (i k : ℕ) (m : Message) (rest : List Message) (o : Node) (r : Refusal) →
     i < g .count → k < length (near i) → n .way (neighbour near i k) i ≡ m ∷ rest → takes k m (n .node i) ≡ Refused o r → ⊥
+
+-- Nor does a connect ever come over an edge that a node has rejected.
+abbrev pub NoLateConnect : Type 0
+NoLateConnect =
+    (g : Graph) → Weights g → (near : Near) → Placed g near → (n : Net) → Reach g near n → (i k l : ℕ) (front back : List Message) →
+    i < g .count → k < length (near i) → markOf (n .node i) k ≡ Rejected → n .way (neighbour near i k) i ≡ front ++ (Connect l ∷ back) → ⊥
 
 -- a set of nodes that no edge leads out of
 pub record Closed (g : Graph) (C : ℕ → Bool) : Type 0 where

@@ -1,5 +1,5 @@
 // The protocol as a whole: nets of nodes, and what is proved of every net that can be reached.
-ghost use Rattle.protocol.specs.Theorems.{AlwaysRight, Main, Rests, LevelsLow, FewMessages, ShortQueues, NoStray, NeverStuck};
+ghost use Rattle.protocol.specs.Theorems.{AlwaysRight, Main, Rests, LevelsLow, FewMessages, ShortQueues, NoStray, NoLateConnect, NeverStuck};
 ghost use Rattle.protocol.specs.Whole.{WholeMain, WholeRests, WholeLevels};
 
 // A branch belongs to the least net, and a rejected edge does not, at every moment.
@@ -47,6 +47,13 @@ pub fn short_queues() -> u8
 // No message is ever refused, in a graph of at most 256 nodes.
 pub fn no_stray() -> u8
     ensures { λ _. ⌜ NoStray ⌝ }
+{
+    0
+}
+
+// Nor does a connect come over an edge that a node has rejected.
+pub fn no_late_connect() -> u8
+    ensures { λ _. ⌜ NoLateConnect ⌝ }
 {
     0
 }
