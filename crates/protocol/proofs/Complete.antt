@@ -52,7 +52,7 @@ module _ (g : Graph) (w : Weights g) (near : Near) (p : Placed g near) where
         known Rejected q z = absurd (right g w (lift near n) (b .ghost) (b .inv .edges) (b .inv .insides) (b .inv .belonging) x (neighbour near x k) e .1 (by ∙ q) z)
 
   -- what is decided stays, over whole runs
-  run-reach : {n m : Net} → Reach g near n → Run g near n m → Reach g near m
+  pub run-reach : {n m : Net} → Reach g near n → Run g near n m → Reach g near m
   run-reach r still = r
   run-reach r (more q s) = then (run-reach r q) s
 

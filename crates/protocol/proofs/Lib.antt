@@ -84,8 +84,10 @@ pub mod Levels
 pub mod Reaches
 pub mod Complete
 pub mod Queued
-pub mod Everywhere
 pub mod Sounds
 pub mod Strays
 pub mod Moving
 pub mod Rejections
+pub mod Spent
+pub mod Arrives
+pub mod Everywhere

@@ -43,7 +43,7 @@ both-true true true e = (refl, refl)
 both-true true false e = absurd (grind arith)
 both-true false b e = absurd (grind arith)
 
-not-asleep : (s : Status) → isSleeping s ≡ false → s ≡ Sleeping → ⊥
+pub not-asleep : (s : Status) → isSleeping s ≡ false → s ≡ Sleeping → ⊥
 not-asleep s e u = let z : isSleeping Sleeping ≡ false = subst (λ v. isSleeping v ≡ false) u e in grind arith
 
 pub moving : NeverStuck

@@ -1,6 +1,6 @@
--- How many edges a graph has.
+-- How many edges a graph has, and how many messages are ever sent in it.
 use mathlib.Core.Bool.{cond}
-use Prim.Native.Nat.{ℕ, zero, suc, _+_}
+use Prim.Native.Nat.{ℕ, zero, suc, _+_, _*_}
 use lib.Dec.{leb}
 use Rattle.graph.specs.Graph.{Graph}
 
@@ -17,3 +17,7 @@ edgesAmong g (suc n) = edgesBelow g n n + edgesAmong g n
 -- how many edges there are
 abbrev pub edgeCount : Graph → ℕ
 edgeCount g = edgesAmong g (g .count)
+
+-- the most messages that are ever sent where a level is at most k: five for each node and level, and two for each edge
+abbrev pub bound : Graph → ℕ → ℕ
+bound g k = 5 * (g .count * (k + 1)) + 2 * edgeCount g

@@ -2,3 +2,4 @@ pub mod Net
 pub mod Count
 pub mod Theorems
 pub mod Whole
+pub mod Runs

@@ -2,7 +2,7 @@
 use mathlib.Core.Path.{_≡_}
 use mathlib.Core.Bool.{Bool, true, false, cond}
 use mathlib.Core.List.{List, _∷_, _++_}
-use Prim.Native.Nat.{ℕ, zero, suc, _+_, _*_, _^_, _<_, _≤_}
+use Prim.Native.Nat.{ℕ, zero, suc, _+_, _^_, _<_, _≤_}
 use lib.ListN.{length}
 use Rattle.message.specs.declared.refusals.Refusal.{Refusal}
 use Rattle.message.specs.declared.messages.Message.{Message}
@@ -13,7 +13,7 @@ use Rattle.node.specs.declared.state.Mark.the-variants.{Basic, Branch, Rejected
 use Rattle.node.specs.Rules.{isSleeping, markOf, takes}
 use Rattle.graph.specs.Graph.{Graph, Edge, Joined, Weights, Belongs}
 use Rattle.protocol.specs.Net.{Near, Placed, neighbour, Net, Reach, Run}
-use Rattle.protocol.specs.Count.{edgeCount}
+use Rattle.protocol.specs.Count.{bound}
 
 -- At every moment: an edge that is a branch, as either end sees it, belongs to the least net, and one that is rejected does not.
 abbrev pub AlwaysRight : Type 0
@@ -49,7 +49,7 @@ LevelsLow =
 abbrev pub FewMessages : Type 0
 FewMessages =
     (g : Graph) → Weights g → (near : Near) → Placed g near → (k : ℕ) → g .count < 2 ^ suc k → (n : Net) → Reach g near n →
-    n .count ≤ 5 * (g .count * (k + 1)) + 2 * edgeCount g
+    n .count ≤ bound g k
 
 -- Queues are short: with fewer than two to the power k + 1 nodes, at most k + 3 messages are under way from one node to another at any moment.
 abbrev pub ShortQueues : Type 0

@@ -1,6 +1,7 @@
 // The protocol as a whole: nets of nodes, and what is proved of every net that can be reached.
 ghost use Rattle.protocol.specs.Theorems.{AlwaysRight, Main, Rests, LevelsLow, FewMessages, ShortQueues, NoStray, NoLateConnect, NeverStuck};
-ghost use Rattle.protocol.specs.Whole.{WholeMain, WholeRests, WholeLevels};
+ghost use Rattle.protocol.specs.Runs.{EveryRunEnds, FewMoves, Ends};
+ghost use Rattle.protocol.specs.Whole.{WholeMain, WholeRests, WholeLevels, WholeEnds, WholeNeverStuck};
 
 // A branch belongs to the least net, and a rejected edge does not, at every moment.
 pub fn always_right() -> u8
@@ -65,6 +66,27 @@ pub fn never_stuck() -> u8
     0
 }
 
+// Every run ends: each waking and each taking leaves less to do.
+pub fn every_run_ends() -> u8
+    ensures { λ _. ⌜ EveryRunEnds ⌝ }
+{
+    0
+}
+
+// From the start no run has more wakings and takings than messages may be sent and nodes may wake.
+pub fn few_moves() -> u8
+    ensures { λ _. ⌜ FewMoves ⌝ }
+{
+    0
+}
+
+// From every net that can be reached some run leads to the halting of a node.
+pub fn ends() -> u8
+    ensures { λ _. ⌜ Ends ⌝ }
+{
+    0
+}
+
 // The end, where all nodes can be joined.
 pub fn whole_main() -> u8
     ensures { λ _. ⌜ WholeMain ⌝ }
@@ -82,6 +104,20 @@ pub fn whole_rests() -> u8
 // Levels, by the number of all nodes.
 pub fn whole_levels() -> u8
     ensures { λ _. ⌜ WholeLevels ⌝ }
+{
+    0
+}
+
+// Some run leads to a node that has halted.
+pub fn whole_ends() -> u8
+    ensures { λ _. ⌜ WholeEnds ⌝ }
+{
+    0
+}
+
+// Where nothing is under way and nobody sleeps some node has halted.
+pub fn whole_never_stuck() -> u8
+    ensures { λ _. ⌜ WholeNeverStuck ⌝ }
 {
     0
 }
