@@ -107,7 +107,7 @@ module _ (g : Graph) (i : ℕ) (near : List ℕ) (n : Node) (s : Shape g i near 
       let h = held-bettering g i near (rules.testing None n) (shape-untested g i near n s inside) j (Weight (weightOf n j)) ∙ ap (λ v. bettering (at j) (Weight v) (testingNow None k)) (s .weigh j p) in
       report-bridged g i near n s inside (got (at j) Accept) (rules.bettering j (Weight (weightOf n j)) (rules.testing None n)) (bettering (at j) (Weight (g .weight i (at j))) (testingNow None k)) refl h
       (λ a b. Accepted-report a b) (λ a. Accepted-wait a) (rules.reports (rules.bettering j (Weight (weightOf n j)) (rules.testing None n)) silent) (reports-is (rules.bettering j (Weight (weightOf n j)) (rules.testing None n)) silent)
-  took-bridged j _ _ e (rejected c) = reject-bridged g i near n s inside (got (at j) Reject) j e (λ m q. Rejected-ask m q) (λ z q. Rejected-report z q refl) (λ z q. Rejected-wait z q)
+  took-bridged j _ _ e (rejected c) = reject-bridged g i near n s inside (got (at j) Reject) j e (λ m q. Rejected-ask m q) (λ z q. Rejected-report z q refl) (λ z q. Rejected-wait (record { nobody = λ y a b c. z .nobody y a b (grind arith) }) q)
   took-bridged j _ _ e (heardChild w c) =
       let p = inside-of g i near n s j e in
       let away = no-edge g i near n s inside (n .parent) j (s .within .parentThere) p c in

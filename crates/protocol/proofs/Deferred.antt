@@ -95,7 +95,7 @@ module _ (g : Graph) (i : ℕ) (near : List ℕ) (n : Node) (s : Shape g i near 
   by-neighbour j (Test l f) p d = d
   by-neighbour j Accept p d = d
   by-neighbour j Reject p d = d
-  by-neighbour j (Report w) p d = (yes-edge g i near n s inside (n .parent) j (d .0), find-is (n .status) (d .1))
+  by-neighbour j (Report w) p d = (yes-edge g i near n s inside (n .parent) j (d .0), let z = find-is (n .status) (d .1) in grind arith)
   by-neighbour j Change p d = d
 
   pub later : (j : ℕ) (m : Message) → isSleeping (n .status) ≡ false → rules.takes j m n ≡ Deferred n → Later (getD near j 0) m (heldOf near n)
