@@ -1,7 +1,7 @@
 -- The lightest edge out of a set of nodes belongs.
 use Rattle.std.proofs.Common.{◌≡◌, ℕ, ◌<◌, ◌≤◌, Bool, true, false, refl, not-le_of_lt}
 use borrow.Author.Tests.{both_ways}
-use Rattle.graph.specs.Graph.{Graph, Edge, Joined, Belongs}
+use Rattle.graph.specs.Graph.{Graph, Edge, Joined}
 use Rattle.graph.specs.Theorems.{Cut}
 
 -- over edges lighter than all that leave the set, no way leaves it

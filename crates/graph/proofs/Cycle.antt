@@ -1,5 +1,5 @@
 -- An edge whose ends are joined by other edges that belong does not belong.
-use Rattle.std.proofs.Common.{◌≡◌, ℕ, zero, suc, ◌<◌, ◌≤◌, max, Bool, true, false, ◌⊎◌, sym, refl, ◌∙◌, subst, inl, inr, arith}
+use Rattle.std.proofs.Common.{◌≡◌, ℕ, zero, suc, ◌<◌, ◌≤◌, max, ◌⊎◌, sym, ◌∙◌, inl, inr, arith}
 use native.Mathlib.Decide.{dec_lt}
 use Rattle.graph.specs.Graph.{Graph, Edge, Joined, Weights, Belongs}
 use Rattle.graph.specs.Theorems.{Cycle, NoRing, Other, Detour}

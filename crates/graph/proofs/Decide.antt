@@ -1,5 +1,5 @@
 -- Whether nodes are joined by lighter edges is computed right, and so it is decided whether an edge belongs.
-use Rattle.std.proofs.Common.{◌≡◌, ℕ, zero, suc, ◌<◌, ◌≤◌, Bool, true, false, T, ◌⊎◌, inl, inr, arith}
+use Rattle.std.proofs.Common.{◌≡◌, ℕ, zero, suc, ◌<◌, Bool, true, false, T, ◌⊎◌, inl, inr, arith}
 use native.Mathlib.Decide.{dec_lt}
 use lib.Dec.{eqb_refl}
 use Rattle.graph.specs.Graph.{Graph, Edge, Joined, Belongs}

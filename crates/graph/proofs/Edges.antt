@@ -1,10 +1,10 @@
 -- Lists of edges: their weights are those of a graph, neighbours are what the edges say, and what one more edge does.
-use Rattle.std.proofs.Common.{◌≡◌, ℕ, zero, suc, ◌+◌, ◌<◌, ◌≤◌, Bool, true, false, cond, not, ◌&&◌, ◌||◌, eqb, ltb, leb, ◌⊎◌, List, [], ◌∷◌, ◌++◌, length, get_or, take, sym, refl, ap, ◌∙◌, inl, inr, arith, length-append}
+use Rattle.std.proofs.Common.{◌≡◌, ℕ, ◌+◌, ◌<◌, ◌≤◌, Bool, true, false, cond, ◌&&◌, eqb, ◌⊎◌, List, [], ◌∷◌, ◌++◌, length, get_or, refl, ◌∙◌, arith, length-append}
 use Rattle.std.specs.List.{AllByRecursion as All}
-use Rattle.std.proofs.lemmas.List.{get_or-append-add, append_assoc, append-nil}
+use Rattle.std.proofs.lemmas.List.{get_or-append-add}
 use Rattle.std.proofs.ByRecursion.{All-append, All-from_get_or, All-get_or}
-use Rattle.graph.specs.Graph.{Graph, Edge, Weights}
-use Rattle.graph.specs.Edges.{between, weight_in, has_weight, graph_from, seen_from, neighbours_of, no_edge, Valid, apart, apart_from, all_apart, AllValid, FewEach, Sound, alike}
+use Rattle.graph.specs.Graph.{Weights}
+use Rattle.graph.specs.Edges.{between, weight_in, graph_from, seen_from, neighbours_of, no_edge, Valid, apart, apart_from, all_apart, AllValid}
 use Rattle.graph.specs.declared.edge.WeightedEdge.{WeightedEdge}
 use Rattle.graph.specs.declared.edge.Neighbour.{Neighbour}
 

@@ -1,13 +1,12 @@
 -- The front of a sound list is sound, and the edge behind a front has no fault there.
-use Rattle.std.proofs.Common.{◌≡◌, ℕ, ◌+◌, ◌<◌, ◌≤◌, Bool, true, false, cond, not, ◌&&◌, ◌||◌, eqb, ltb, leb, ◌⊎◌, List, [], ◌∷◌, ◌++◌, length, get_or, Some, None, Option, sym, refl, ap, ◌∙◌, subst, inl, inr, arith, length-append}
-use Rattle.std.proofs.lemmas.List.{append_assoc, get_or_append_left, get_or_push, length_push}
-use Rattle.std.proofs.lemmas.Bool.{eq-eqb}
-use Rattle.graph.specs.Edges.{weight_in, has_weight, seen_from, neighbours_of, no_edge, Valid, apart, apart_from, all_apart, AllValid, FewEach, Sound}
+use Rattle.std.proofs.Common.{◌≡◌, ℕ, ◌<◌, ◌≤◌, Bool, true, false, cond, not, ◌&&◌, ◌||◌, eqb, ltb, leb, ◌⊎◌, List, [], ◌∷◌, ◌++◌, length, Some, None, refl, ap, subst, inl, inr, arith, length-append}
+use Rattle.std.proofs.lemmas.List.{get_or_append_left, get_or_push, length_push}
+use Rattle.graph.specs.Edges.{weight_in, has_weight, seen_from, neighbours_of, no_edge, Valid, apart, apart_from, all_apart, Sound}
 use Rattle.graph.specs.Faults.{edge_fault, count_fault}
 use Rattle.graph.specs.declared.edge.WeightedEdge.{WeightedEdge}
 use Rattle.graph.specs.declared.fault.Fault.TheVariants.{NodeOutOfRange, OwnNode, WeightOutOfRange, EdgeTwice, WeightTwice, TooManyEdges}
 use Rattle.graph.proofs.Edges.{valid_each}
-use Rattle.graph.proofs.Push.{neighbours_append, neighbours_push, valid_push, separate_push, separate_back, degrees_push, Faultless, faultless}
+use Rattle.graph.proofs.Push.{neighbours_append, neighbours_push, valid_push, separate_push, separate_back, degrees_push, faultless}
 
 apart_from_front : (e : WeightedEdge) (xs ys : List WeightedEdge) → apart_from e (xs ++ ys) ≡ true → apart_from e xs ≡ true
 unfolding apart_from

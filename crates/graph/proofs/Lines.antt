@@ -1,5 +1,5 @@
 -- The lines of a text, one after the other.
-use Rattle.std.proofs.Common.{◌≡◌, ℕ, suc, ◌+◌, ◌-◌, ◌<◌, ◌≤◌, Bool, true, false, cond, not, eqb, List, [], ◌∷◌, map, length, take, drop, sym, refl, ap, ◌∙◌, one-add, arith, length-drop}
+use Rattle.std.proofs.Common.{◌≡◌, ℕ, ◌+◌, ◌<◌, Bool, true, false, cond, not, eqb, List, [], ◌∷◌, map, length, take, drop, sym, refl, ap, one-add, arith, length-drop}
 use Rattle.std.proofs.lemmas.Bool.{eqb-false}
 use Rattle.graph.specs.Text.{front, line_of, after_line, lines_of, on_line}
 use Rattle.graph.specs.Items.{item_of, items_of}

@@ -1,5 +1,5 @@
 -- Ways over light edges: one after the other, turned round, and under a larger weight.
-use Rattle.std.proofs.Common.{◌≡◌, ℕ, ◌<◌, ◌≤◌, arith}
+use Rattle.std.proofs.Common.{ℕ, ◌≤◌, arith}
 use Rattle.graph.specs.Graph.{Graph, Edge, Joined, Weights}
 
 pub edge_back : (g : Graph) → Weights g → (a b : ℕ) → Edge g a b → Edge g b a

@@ -1,13 +1,11 @@
 -- One more edge at the end of a list: what it does to neighbours, and when the list is sound with it.
-use Rattle.std.proofs.Common.{◌≡◌, ℕ, zero, suc, ◌+◌, ◌<◌, ◌≤◌, Bool, true, false, cond, not, ◌&&◌, ◌||◌, eqb, ltb, leb, List, [], ◌∷◌, ◌++◌, length, get_or, take, set, Some, None, Option, sym, refl, ap, ◌∙◌, arith, length-append}
+use Rattle.std.proofs.Common.{◌≡◌, ℕ, ◌+◌, ◌<◌, ◌≤◌, Bool, true, false, cond, ◌&&◌, ◌||◌, eqb, List, [], ◌∷◌, ◌++◌, length, None, sym, refl, ap, ◌∙◌, arith, length-append}
 use Rattle.std.specs.List.{AllByRecursion as All}
-use Rattle.std.proofs.lemmas.List.{append_assoc, append-nil, length_push, get_or_push, get_or_append_left}
-use Rattle.std.proofs.ByRecursion.{All-push, All-from_get_or, All-get_or}
-use Rattle.graph.specs.Edges.{between, weight_in, has_weight, seen_from, neighbours_of, no_edge, Valid, apart, apart_from, all_apart, AllValid, FewEach, Sound, alike}
+use Rattle.std.proofs.lemmas.List.{append_assoc, append-nil}
+use Rattle.std.proofs.ByRecursion.{All-push, All-get_or}
+use Rattle.graph.specs.Edges.{between, weight_in, has_weight, seen_from, neighbours_of, no_edge, Valid, apart, apart_from, all_apart, AllValid, FewEach, alike}
 use Rattle.graph.specs.Faults.{edge_fault}
-use Rattle.graph.specs.declared.fault.Fault.{Fault}
-use Rattle.graph.specs.declared.fault.Fault.TheVariants.{NodeOutOfRange, OwnNode, WeightOutOfRange, EdgeTwice, WeightTwice, TooManyEdges}
-use Rattle.graph.proofs.Edges.{valid_each, weight_past, weight_found}
+use Rattle.graph.proofs.Edges.{valid_each}
 use Rattle.graph.specs.declared.edge.WeightedEdge.{WeightedEdge}
 use Rattle.graph.specs.declared.edge.Neighbour.{Neighbour}
 

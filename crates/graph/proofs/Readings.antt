@@ -1,5 +1,5 @@
 -- One item of a reading after the other.
-use Rattle.std.proofs.Common.{◌≡◌, ℕ, ◌+◌, ◌⊎◌, List, [], ◌∷◌, ◌++◌, Some, None, Option, sym, refl, ap, ◌∙◌, inl, inr}
+use Rattle.std.proofs.Common.{◌≡◌, ℕ, ◌+◌, List, [], ◌∷◌, Some, None, refl, ap, ◌∙◌}
 use Rattle.graph.specs.Reading.{Reading, accepted, refused, item_fault, after_item, unless, edges_from, first_fault, after_first, reading_of}
 use Rattle.graph.specs.declared.edge.WeightedEdge.{WeightedEdge}
 use Rattle.graph.specs.declared.fault.Fault.{Fault}

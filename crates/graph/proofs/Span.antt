@@ -1,6 +1,6 @@
 -- Nodes that can be joined at all are joined by edges that belong.
-use Rattle.std.proofs.Common.{ℕ, zero, suc, ◌<◌, ◌≤◌, arith}
-use Rattle.graph.specs.Graph.{Graph, Edge, Joined, Belongs}
+use Rattle.std.proofs.Common.{ℕ, zero, suc, arith}
+use Rattle.graph.specs.Graph.{Graph, Joined}
 use Rattle.graph.specs.Theorems.{Spanned, Span}
 use Rattle.graph.proofs.Paths.{joined_more}
 use Rattle.graph.proofs.Decide.{joined_or_not}

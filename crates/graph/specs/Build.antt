@@ -1,5 +1,5 @@
 -- What building a list of edges does, one edge at a time.
-use Rattle.std.specs.Prelude.{◌≡◌, ℕ, ◌+◌, ◌<◌, ◌≤◌, ◌⊎◌, List, [], ◌∷◌, ◌++◌, length, get_or, take, Some, None, Ok, Err, Option, Result, ◌≢◌, slice_index_or}
+use Rattle.std.specs.Prelude.{◌≡◌, ℕ, ◌+◌, ◌⊎◌, List, [], ◌∷◌, ◌++◌, length, get_or, take, Some, None, Ok, Err, Result, ◌≢◌, slice_index_or}
 use Rattle.graph.specs.Edges.{alone}
 use Rattle.graph.specs.Faults.{count_fault, edge_fault}
 use Rattle.graph.specs.Lists.{edges_of}

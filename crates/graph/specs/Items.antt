@@ -1,5 +1,5 @@
 -- What the lines of a valley file say.
-use Rattle.std.specs.Prelude.{ℕ, cond, ◌&&◌, ◌||◌, List, map, length, Some, None, codes, Option, ◌==◌, slice_index}
+use Rattle.std.specs.Prelude.{ℕ, cond, ◌||◌, List, map, length, Some, None, codes, Option, ◌==◌, slice_index}
 use Rattle.std.specs.Str.{bytes_eq}
 use Rattle.graph.specs.Text.{word_of, after_word, number_of, lines_of}
 use Rattle.graph.specs.declared.item.Item.{Item}

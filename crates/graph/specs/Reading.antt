@@ -1,5 +1,5 @@
 -- Reading a valley file: its items are taken one at a time, and the first that is at fault refuses the file.
-use Rattle.std.specs.Prelude.{◌≡◌, ℕ, ◌+◌, ◌<◌, ◌≤◌, ◌⊎◌, List, [], ◌∷◌, ◌++◌, length, Some, None, Ok, Err, Option, Result}
+use Rattle.std.specs.Prelude.{◌≡◌, ℕ, ◌+◌, ◌⊎◌, List, [], ◌∷◌, ◌++◌, length, Some, None, Ok, Err, Option, Result}
 use Rattle.graph.specs.Graph.{Connected}
 use Rattle.graph.specs.Edges.{graph_from}
 use Rattle.graph.specs.Faults.{count_fault, edge_fault}

@@ -1,5 +1,5 @@
 -- The theory of the lightest net: each statement is a type, and a proof of the type is the theorem.
-use Rattle.std.specs.Prelude.{◌≡◌, ℕ, zero, suc, ◌<◌, ◌≤◌, Bool, true, false, ◌&&◌, ◌||◌, T, ◌⊎◌, ◌==◌, nat_le, nat_lt}
+use Rattle.std.specs.Prelude.{◌≡◌, ℕ, zero, suc, ◌≤◌, Bool, true, false, ◌&&◌, ◌||◌, T, ◌⊎◌, ◌==◌, nat_le, nat_lt}
 use Rattle.graph.specs.Graph.{Graph, Edge, Joined, Weights, Belongs}
 
 -- The lightest edge that leaves a set of nodes belongs.

@@ -1,4 +1,6 @@
 // Graphs of 1 to 256 nodes with weighted edges, the valley file, and which edges belong to the lightest net.
+#![tactic(auto)]
+
 pub mod build;
 pub mod edge;
 pub mod edge_list;

@@ -1,4 +1,6 @@
 // Tests of `graph`: every kind of bad valley file, good ones, and verdicts on marks.
+#![tactic(auto)]
+
 use graph::edge_list::EdgeList;
 use graph::mark_file::judge;
 use graph::valley_file::{Refusal, read};
@@ -52,12 +54,17 @@ mod tests {
 
     const HOUSES: &[u8] = b"houses 3\n";
 
-    fn refuses(rt: &HostRuntime, text: &[u8], line: usize, code: u8) -> Result<(), Fail> {
-        assert_eq!(fault_of(rt.alloc(), text), (line, code));
+    fn refuses(
+        rt: &(impl Abort + AllocGlobal),
+        text: &[u8],
+        line: usize,
+        code: u8,
+    ) -> Result<(), Fail> {
+        assert_eq!(rt; fault_of(rt.alloc(), text), (line, code));
         Ok(())
     }
 
-    fn accepts(rt: &HostRuntime, text: &[u8]) -> Result<(), Fail> {
+    fn accepts(rt: &(impl Abort + AllocGlobal), text: &[u8]) -> Result<(), Fail> {
         refuses(rt, text, 0, 0)
     }
 
@@ -86,7 +93,7 @@ mod tests {
     }
 
     // A line behind `houses 3`.
-    fn refuses_line(rt: &HostRuntime, line: &[u8], code: u8) -> Result<(), Fail> {
+    fn refuses_line(rt: &(impl Abort + AllocGlobal), line: &[u8], code: u8) -> Result<(), Fail> {
         let text = long_text(
             rt.alloc(),
             b"houses 3\nline 0 1 5\n",

@@ -33,7 +33,7 @@ fn say(rt: &HostRuntime, text: &[u8]) -> io::Result<()> {
 
 // A line of this crate's own words about what the system said.
 fn unkept(rt: &HostRuntime, e: io::Error) -> anyhow::Result<anyhow::Error> {
-    Ok(format!(in rt.alloc(); "box: `lamp`: {e}")?.into())
+    Ok(anyhow!(format!(in rt.alloc(); "box: `lamp`: {e}")?))
 }
 
 fn keep(rt: &HostRuntime, page: &[u8]) -> anyhow::Result<()> {
@@ -47,8 +47,8 @@ fn keep(rt: &HostRuntime, page: &[u8]) -> anyhow::Result<()> {
 fn fresh(rt: &HostRuntime, station: Station) -> anyhow::Result<House> {
     let page = match page::write(rt.alloc(), &station) {
         Ok(page) => page,
-        Err(Unwritten::Memory) => return Err(NO_MEMORY.into()),
-        Err(Unwritten::Full) => return Err(FULL.into()),
+        Err(Unwritten::Memory) => return Err(anyhow!(NO_MEMORY)),
+        Err(Unwritten::Full) => return Err(anyhow!(FULL)),
     };
     keep(rt, &page)?;
     Ok(House { station, page })
@@ -58,11 +58,11 @@ fn fresh(rt: &HostRuntime, station: Station) -> anyhow::Result<House> {
 fn resumed(rt: &HostRuntime, arguments: &Arguments, page: Vec<u8>) -> anyhow::Result<House> {
     let station = match page::read(rt.alloc(), &page) {
         Ok(station) => station,
-        Err(Unread::Memory) => return Err(NO_MEMORY.into()),
-        Err(Unread::Foreign) => return Err(FOREIGN.into()),
+        Err(Unread::Memory) => return Err(anyhow!(NO_MEMORY)),
+        Err(Unread::Foreign) => return Err(anyhow!(FOREIGN)),
     };
     if !page::serves(&station, arguments.number, &arguments.neighbours) {
-        return Err(FOREIGN.into());
+        return Err(anyhow!(FOREIGN));
     }
     Ok(House { station, page })
 }
@@ -72,7 +72,7 @@ impl House {
     pub fn open(rt: &HostRuntime, first: &[u8], others: &[String]) -> anyhow::Result<House> {
         let heap = rt.alloc();
         let Some(arguments) = arguments_of(heap, first, others)? else {
-            return Err(WRONG_WORDS.into());
+            return Err(anyhow!(WRONG_WORDS));
         };
         let station = match Station::new(heap, arguments.number, &arguments.neighbours) {
             Ok(station) => station,
@@ -107,8 +107,8 @@ impl House {
         let step = match step_of(rt.alloc(), outcome) {
             Ok(Some(step)) => step,
             Ok(None) => return Ok(self),
-            Err(Untold::Memory) => return Err(NO_MEMORY.into()),
-            Err(Untold::Unfit) => return Err(FULL.into()),
+            Err(Untold::Memory) => return Err(anyhow!(NO_MEMORY)),
+            Err(Untold::Unfit) => return Err(anyhow!(FULL)),
         };
         if step.page.as_slice() != self.page.as_slice() {
             keep(rt, &step.page)?;

@@ -1,4 +1,6 @@
 // `box I J:L J:L ..`: the box of one house.
+#![tactic(auto)]
+
 mod arguments;
 mod command;
 mod hex;
@@ -8,9 +10,11 @@ mod reply;
 mod report;
 mod step;
 
+use anyhow::anyhow;
 use house::House;
-use std::env;
 use std::io::{BufRead, BufReader};
+use std::process::ExitCode;
+use std::{env, io};
 
 const USE: &str = "use: box I J:L J:L ..";
 
@@ -28,19 +32,31 @@ fn serve(rt: &HostRuntime, mut house: House) -> anyhow::Result<()> {
     Ok(())
 }
 
+fn help(rt: &HostRuntime) -> anyhow::Result<()> {
+    println!(rt; "box: the box of one house")?;
+    println!(rt; "{USE}")?;
+    Ok(())
+}
+
 fn run(rt: &HostRuntime) -> anyhow::Result<()> {
     let mut words = env::args(rt)?.skip(1);
     let Some(first) = words.next() else {
-        return Err(USE.into());
+        return Err(anyhow!(USE));
     };
+    if first.as_str() == "--help" {
+        return help(rt);
+    }
     let others: Vec<String> = words.collect(rt.alloc())?;
     serve(rt, House::open(rt, first.as_bytes(), &others)?)
 }
 
-fn main(rt: HostRuntime) -> anyhow::Result<()> {
-    let done = run(&rt);
-    if let Err(e) = &done {
-        eprintln!(rt; "{e}")?;
+// What went wrong is one line on standard error.
+fn main(rt: HostRuntime) -> io::Result<ExitCode> {
+    match run(&rt) {
+        Ok(()) => Ok(ExitCode::SUCCESS),
+        Err(e) => {
+            eprintln!(rt; "{e}")?;
+            Ok(ExitCode::FAILURE)
+        }
     }
-    done
 }

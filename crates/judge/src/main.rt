@@ -1,9 +1,12 @@
 // `judge FILE [MARKS]`: are these marks the shortest net?
+#![tactic(auto)]
+
 use anyhow::anyhow;
 use graph::edge_list::EdgeList;
 use graph::mark_file::judge;
 use graph::valley_file::read;
 use std::io::Read;
+use std::process::ExitCode;
 use std::{env, fs, io};
 
 const USE: &str = "use: judge FILE [MARKS]";
@@ -41,11 +44,11 @@ fn report(rt: &HostRuntime, list: &EdgeList, marks: &[u8]) -> anyhow::Result<()>
 fn run(rt: &HostRuntime) -> anyhow::Result<()> {
     let mut given = env::args(rt)?.skip(1);
     let Some(file) = given.next() else {
-        return Err(USE.into());
+        return Err(anyhow!(USE));
     };
     let marks = given.next();
     if given.next().is_some() {
-        return Err(USE.into());
+        return Err(anyhow!(USE));
     }
     let list = graph_of(rt, file.as_str())?;
     match marks {
@@ -54,10 +57,13 @@ fn run(rt: &HostRuntime) -> anyhow::Result<()> {
     }
 }
 
-fn main(rt: HostRuntime) -> anyhow::Result<()> {
-    let done = run(&rt);
-    if let Err(e) = &done {
-        eprintln!(rt; "{e}")?;
+// What went wrong is one line on standard error.
+fn main(rt: HostRuntime) -> io::Result<ExitCode> {
+    match run(&rt) {
+        Ok(()) => Ok(ExitCode::SUCCESS),
+        Err(e) => {
+            eprintln!(rt; "{e}")?;
+            Ok(ExitCode::FAILURE)
+        }
     }
-    done
 }

@@ -1,4 +1,6 @@
 // One end of a link: messages numbered from 1, sent again until they are acknowledged, and taken once.
+#![tactic(auto)]
+
 mod ends;
 mod laws;
 

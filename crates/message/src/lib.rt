@@ -1,4 +1,6 @@
 // Messages between neighbouring nodes, the packets and acknowledgements that carry them, and their bytes.
+#![tactic(auto)]
+
 mod laws;
 mod messages;
 mod packets;

@@ -1,4 +1,6 @@
 // Stations and the copper between them, an event at a time.
+#![tactic(auto)]
+
 mod fate;
 mod theorem;
 

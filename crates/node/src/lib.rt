@@ -1,4 +1,6 @@
 // One node of the protocol: what it holds, and what it does with each message.
+#![tactic(auto)]
+
 mod edges;
 mod laws;
 mod rules;

@@ -1,4 +1,6 @@
 // A station as one page of bytes, and back.
+#![tactic(auto)]
+
 mod fields;
 mod keeping;
 mod laws;

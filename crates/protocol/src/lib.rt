@@ -1,4 +1,6 @@
 // The protocol as a whole: nets of nodes, and what is proved of every net that can be reached.
+#![tactic(auto)]
+
 ghost use Rattle.protocol.specs.Theorems.{AlwaysRight, Main, Rests, LevelsLow, FewMessages, ShortQueues, NoStray, NoLateConnect, NeverStuck};
 ghost use Rattle.protocol.specs.Runs.{EveryRunEnds, FewMoves, Ends};
 ghost use Rattle.protocol.specs.Whole.{WholeMain, WholeRests, WholeLevels, WholeEnds, WholeNeverStuck};

@@ -1,4 +1,6 @@
 // What stands in a box: a node, its links to its neighbours, and what it does with all that comes.
+#![tactic(auto)]
+
 mod events;
 mod laws;
 mod making;

@@ -1,6 +1,5 @@
 -- Each turn passes over an edge of another weight.
-use Rattle.std.proofs.Common.{◌≡◌, sym, ◌∙◌}
-use Rattle.graph.specs.Edges.{has_weight}
+use Rattle.std.proofs.Common.{sym, ◌∙◌}
 use Rattle.graph.proofs.Steps.{has_here, has_on, has_end}
 use Rattle.graph.proofs.edge.has_weight.Goals as goal
 

@@ -1,6 +1,5 @@
 -- Each turn passes over an edge between other nodes.
-use Rattle.std.proofs.Common.{◌≡◌, sym, ◌∙◌}
-use Rattle.graph.specs.Edges.{weight_in}
+use Rattle.std.proofs.Common.{sym, ◌∙◌}
 use Rattle.graph.proofs.Steps.{weight_here, weight_on, weight_end}
 use Rattle.graph.proofs.edge.weight_in.Goals as goal
 

@@ -1,7 +1,5 @@
 -- The edges passed run between other nodes.
-use Rattle.std.proofs.Common.{◌≡◌, ◌+◌, not, drop}
-use Rattle.std.specs.List.{prefix_len}
-use Rattle.graph.specs.Edges.{between}
+use Rattle.std.proofs.Common.{◌≡◌, ◌+◌, drop}
 use Rattle.graph.specs.Marks.{place_of}
 use Rattle.graph.proofs.verdict.place_of.Given as goal
 

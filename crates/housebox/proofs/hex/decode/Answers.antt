@@ -14,7 +14,7 @@ loop-place-preserved c =
     let t = c.args.text.now in
     let i = c.loop-place.place in
     let h : 2 * i + 1 < length t = omega (arith, c.loop-place-test.true) in
-    ap (λ z. behind z (bytes_of (drop (2 * (i + 1)) t))) c.in-ok-push.ensures.items ∙
+    ap (λ z. behind z (bytes_of (drop (2 * (i + 1)) t))) c.in_ok-push-in-Some.ensures.items ∙
     decoded_more t i c.in-Some.byte (vec_items c.loop-place.bytes) h c.in-Some.ensures c.loop-place.invariant
 
 pub returns-in-None : goal.returns-in-None
@@ -33,6 +33,6 @@ returns c =
           (let h : length t ≤ 2 * i = omega (arith, c.loop-place-test.false, w.if-text-eq0.true) in
           ap (λ o. option_map vec_items o) w.result-is ∙ decoded_all t i (vec_items c.loop-place.bytes) h c.loop-place.invariant)
       | else-text-eq0 w ↦
-          (let h : 2 * i + 1 ≡ length t = omega (arith, c.loop-place-test.false, c.loop-place.auto.place_end, w.if-text-eq0.false) in
+          (let h : 2 * i + 1 ≡ length t = omega (arith, c.loop-place-test.false, c.loop-place.auto.place-end, w.if-text-eq0.false) in
           ap (λ o. option_map vec_items o) w.result-is ∙ decoded_odd t i (vec_items c.loop-place.bytes) h c.loop-place.invariant)
     ]

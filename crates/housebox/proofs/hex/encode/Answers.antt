@@ -6,8 +6,8 @@ use Rattle.housebox.proofs.hex.encode.Goals as goal
 pub loop-byte-preserved : goal.loop-byte-preserved
 loop-byte-preserved c =
     encoded_more c.args.bytes.now c.loop-byte.byte-index (vec_items c.loop-byte.text) (vec_items c.push.new.self) (vec_items c.push-in-loop-byte.new.self) c.loop-byte-test.true c.loop-byte.invariant
-    (c.in-ok-push.ensures.items ∙ ap (λ d. vec_items c.loop-byte.text ++ d ∷ []) c.digit.ensures)
-    (c.in-ok-push-2.ensures.items ∙ ap (λ d. vec_items c.push.new.self ++ d ∷ []) c.digit-in-loop-byte.ensures)
+    (c.in_ok-push.ensures.items ∙ ap (λ d. vec_items c.loop-byte.text ++ d ∷ []) c.digit.ensures)
+    (c.in_ok-push-2.ensures.items ∙ ap (λ d. vec_items c.push.new.self ++ d ∷ []) c.digit-in-loop-byte.ensures)
 
 pub returns : goal.returns
 returns c = encoded_all c.args.bytes.now c.loop-byte.byte-index (vec_items c.loop-byte.text) c.loop-byte-test.false c.loop-byte.invariant

@@ -18,6 +18,6 @@ returns c =
     let e = ls.ok.0 in
     let l = c.len.ensures in
     let h : c.args.place < length (vec_items ls) = omega (arith, c.if-place-len.false) in
-    c.in-ok-put-line.ensures ∙ ap (λ z. vec_items c.args.text.now ++ z)
-    (ap (λ z. line_of (codes "lamp") c.index.result.now.neighbour z) (c.as-bytes.ensures.value ∙ c.lamp-words-words.ensures) ∙
+    c.in_ok-put_line.ensures ∙ ap (λ z. vec_items c.args.text.now ++ z)
+    (ap (λ z. line_of (codes "lamp") c.index.result.now.neighbour z) (c.as_bytes.ensures.value ∙ c.lamp_words-words.ensures) ∙
     sym (lamp_read c.args.station.now c.args.place c.index.result.now h c.index.ensures))

@@ -6,5 +6,5 @@ use Rattle.housebox.proofs.report.put_line.Goals as goal
 
 pub returns : goal.returns
 returns c =
-    line_put (vec_items c.args.text.now) (vec_items c.put-head.new.text) (vec_items c.extend-from-slice.new.self) (vec_items c.push.new.self) (numbered c.args.word.now c.args.number) c.args.rest.now (10 ∷ [])
-    c.in-ok-put-head.ensures c.in-ok-extend-from-slice.ensures.items c.in-ok-push.ensures.items
+    line_put (vec_items c.args.text.now) (vec_items c.put_head.new.text) (vec_items c.extend_from_slice.new.self) (vec_items c.push.new.self) (numbered c.args.word.now c.args.number) c.args.rest.now (10 ∷ [])
+    c.in_ok-put_head.ensures c.in_ok-extend_from_slice.ensures.items c.in_ok-push.ensures.items

@@ -10,8 +10,8 @@ loop-refusal-init c = lines_start refusal_line c.args.refusals.now (vec_items c.
 
 pub loop-refusal-preserved : goal.loop-refusal-preserved
 loop-refusal-preserved c =
-    lines_more refusal_line c.args.refusals.now c.loop-refusal.refusal-index Malformed (vec_items c.args.text.now) (vec_items c.loop-refusal.text) (vec_items c.put-refusal.new.text)
-    c.loop-refusal-test.true c.loop-refusal.invariant c.in-ok-put-refusal.ensures
+    lines_more refusal_line c.args.refusals.now c.loop-refusal.refusal-index Malformed (vec_items c.args.text.now) (vec_items c.loop-refusal.text) (vec_items c.put_refusal.new.text)
+    c.loop-refusal-test.true c.loop-refusal.invariant c.in_ok-put_refusal.ensures
 
 pub returns : goal.returns
 returns c = lines_all refusal_line c.args.refusals.now c.loop-refusal.refusal-index (vec_items c.args.text.now) (vec_items c.loop-refusal.text) c.loop-refusal-test.false c.loop-refusal.invariant

@@ -12,11 +12,11 @@ loop-send-init c = lines_start send_line c.args.sends.now (vec_items c.args.text
 
 pub loop-send-preserved : goal.loop-send-preserved
 loop-send-preserved c =
-    lines_more send_line c.args.sends.now c.loop-send.send-index (Packet 0 (record { number = 0; message = Connect 0 })) (vec_items c.args.text.now) (vec_items c.loop-send.text) (vec_items c.put-send.new.text)
-    c.loop-send-test.true c.loop-send.invariant c.in-ok-put-send.ensures
+    lines_more send_line c.args.sends.now c.loop-send.send-index (Packet 0 (record { number = 0; message = Connect 0 })) (vec_items c.args.text.now) (vec_items c.loop-send.text) (vec_items c.put_send.new.text)
+    c.loop-send-test.true c.loop-send.invariant c.in_ok-put_send.ensures
 
 pub returns : goal.returns
 returns c = lines_all send_line c.args.sends.now c.loop-send.send-index (vec_items c.args.text.now) (vec_items c.loop-send.text) c.loop-send-test.false c.loop-send.invariant
 
-pub returns-in-err-put-send : goal.returns-in-err-put-send
-returns-in-err-put-send c = let p = err_from_is_err_and c.from-residual.result c.from-residual.ensures.1 in rw p.1 tt
+pub returns-in_err-put_send : goal.returns-in_err-put_send
+returns-in_err-put_send c = let p = err_from_is_err_and c.from_residual.result c.from_residual.ensures.1 in rw p.1 tt

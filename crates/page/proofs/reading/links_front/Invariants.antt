@@ -5,4 +5,4 @@ use Rattle.page.specs.Reading.{links_front}
 use Rattle.page.proofs.reading.links_front.Given as goal
 
 abbrev pub invariant-loop-i : goal.invariant-loop-i
-invariant-loop-i l = links_front (l.count - l.-i) (map end_of (vec_items l.links)) l.rest ≡ links_front l.count [] l.bytes
+invariant-loop-i l = links_front (l.count - l._i) (map end_of (vec_items l.links)) l.rest ≡ links_front l.count [] l.bytes

@@ -4,4 +4,4 @@ use Rattle.page.specs.Reading.{messages_front}
 use Rattle.page.proofs.reading.messages_front.Given as goal
 
 abbrev pub invariant-loop-i : goal.invariant-loop-i
-invariant-loop-i l = messages_front (l.count - l.-i) (deque_items l.queue) l.rest ≡ messages_front l.count [] l.bytes
+invariant-loop-i l = messages_front (l.count - l._i) (deque_items l.queue) l.rest ≡ messages_front l.count [] l.bytes

@@ -5,8 +5,8 @@ use Rattle.page.proofs.reading.weights_of.Goals as goal
 
 pub loop-place-preserved : goal.loop-place-preserved
 loop-place-preserved c = (
-  length-set c.loop-place.weights c.loop-place.place c.word-at.result ∙ c.loop-place.invariant.0,
-  words_next c.loop-place.weights c.args.bytes.now _ c.loop-place.place c.word-at.result c.loop-place-test.true c.loop-place.invariant.0 c.word-at.ensures c.loop-place.invariant.1,
+  length-set c.loop-place.weights c.loop-place.place c.word_at.result ∙ c.loop-place.invariant.0,
+  words_next c.loop-place.weights c.args.bytes.now _ c.loop-place.place c.word_at.result c.loop-place-test.true c.loop-place.invariant.0 c.word_at.ensures c.loop-place.invariant.1,
 )
 
 pub returns : goal.returns

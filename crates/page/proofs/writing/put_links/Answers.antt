@@ -14,23 +14,23 @@ fit links = list_all link_fits (map end_of links)
 abbrev bytes_of : List Link → List ℕ
 bytes_of links = flat_map link_bytes (map end_of links)
 
-pub returns-in-err-put-link : goal.returns-in-err-put-link
-returns-in-err-put-link c =
+pub returns-in_err-put_link : goal.returns-in_err-put_link
+returns-in_err-put_link c =
     let links = c.args.links.now in
     let i = c.loop-link.link-index in
     let it = c.link-item.result in
-    let p = err_from_is_err_and c.from-residual.result c.from-residual.ensures.1 in
+    let p = err_from_is_err_and c.from_residual.result c.from_residual.ensures.1 in
     let at = ap (λ l. link_fits (end_of l)) (sym c.link-item.is) in
-    rw (p.1, p.2) (why_more c.in-err-put-link.field-0.0 (link_fits (end_of it)) (fit links)
+    rw (p.1, p.2) (why_more c.in_err-put_link.field-0.0 (link_fits (end_of it)) (fit links)
     (λ f. passes_not fit (λ l. link_fits (end_of l)) (λ x xs. refl) refl links i it c.loop-link-test.true (at ∙ f) c.loop-link.invariant.0)
-    c.in-err-put-link.ensures)
+    c.in_err-put_link.ensures)
 
 pub loop-link-preserved : goal.loop-link-preserved
 loop-link-preserved c =
     let links = c.args.links.now in
     let i = c.loop-link.link-index in
     let it = c.link-item.result in
-    let done = c.in-ok-put-link.ensures in
+    let done = c.in_ok-put_link.ensures in
     let at = ap (λ l. link_fits (end_of l)) (sym c.link-item.is) in
     let more = done.1 ∙ ap (λ l. vec_items c.loop-link.bytes ++ link_bytes (end_of l)) c.link-item.is in (
       passes_more fit (λ l. link_fits (end_of l)) (λ x xs. refl) refl links i it c.loop-link-test.true (at ∙ done.0) c.loop-link.invariant.0,

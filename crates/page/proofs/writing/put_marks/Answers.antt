@@ -9,7 +9,7 @@ pub loop-mark-preserved : goal.loop-mark-preserved
 loop-mark-preserved c =
     let ms = c.args.marks.now in
     let i = c.loop-mark.mark-index in
-    let p = c.in-ok-push.ensures.items in
+    let p = c.in_ok-push.ensures.items in
     let more : vec_items c.push.new.self ≡ vec_items c.loop-mark.bytes ++ (mark_byte (get_or ms i Basic) ∷ []) = cc in
     written_more (map mark_byte) (λ m. mark_byte m ∷ []) (λ x xs. refl) refl _ _ _ ms i Basic c.loop-mark-test.true more c.loop-mark.invariant
 

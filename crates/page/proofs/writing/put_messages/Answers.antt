@@ -18,8 +18,8 @@ loop-message-preserved c =
     let ms = c.args.messages.now in
     let i = c.loop-message.message-index in
     let it = c.in-Ok.ensures in
-    let p = c.in-ok-extend-from-slice.ensures.items in
-    let more : vec_items c.extend-from-slice.new.self ≡ vec_items c.loop-message.bytes ++ message_bytes (get_or ms i (Connect 0)) = cc in (
+    let p = c.in_ok-extend_from_slice-in-Ok.ensures.items in
+    let more : vec_items c.extend_from_slice.new.self ≡ vec_items c.loop-message.bytes ++ message_bytes (get_or ms i (Connect 0)) = cc in (
       passes_more (list_all fits) fits (λ x xs. refl) refl ms i (Connect 0) c.loop-message-test.true it.0 c.loop-message.invariant.0,
       written_more (flat_map message_bytes) message_bytes (λ x xs. refl) refl _ _ _ ms i (Connect 0) c.loop-message-test.true more c.loop-message.invariant.1,
     )

@@ -9,6 +9,6 @@ use Rattle.page.proofs.writing.put_node.Goals as goal
 pub returns : goal.returns
 returns c =
     let n = c.args.node in
-    let p = c.in-ok-extend-from-slice.ensures.items in
-    let first : vec_items c.extend-from-slice.new.self ≡ vec_items c.args.bytes.now ++ field_bytes n = cc in
-    three_more _ _ _ _ (field_bytes n) (flat_map word n.weights) (map mark_byte n.marks) first c.in-ok-put-weights.ensures c.in-ok-put-marks.ensures
+    let p = c.in_ok-extend_from_slice.ensures.items in
+    let first : vec_items c.extend_from_slice.new.self ≡ vec_items c.args.bytes.now ++ field_bytes n = cc in
+    three_more _ _ _ _ (field_bytes n) (flat_map word n.weights) (map mark_byte n.marks) first c.in_ok-put_weights.ensures c.in_ok-put_marks.ensures

@@ -9,8 +9,8 @@ pub loop-weight-preserved : goal.loop-weight-preserved
 loop-weight-preserved c =
     let ws = c.args.weights.now in
     let i = c.loop-weight.weight-index in
-    let p = c.in-ok-extend-from-slice.ensures.items in
-    let more : vec_items c.extend-from-slice.new.self ≡ vec_items c.loop-weight.bytes ++ word (get_or ws i 0) = cc in
+    let p = c.in_ok-extend_from_slice.ensures.items in
+    let more : vec_items c.extend_from_slice.new.self ≡ vec_items c.loop-weight.bytes ++ word (get_or ws i 0) = cc in
     written_more (flat_map word) word (λ x xs. refl) refl _ _ _ ws i 0 c.loop-weight-test.true more c.loop-weight.invariant
 
 pub returns : goal.returns

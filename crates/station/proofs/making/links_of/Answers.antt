@@ -12,7 +12,7 @@ loop-neighbour-preserved c =
     let i = c.loop-neighbour.neighbour-index in
     let n = get_or ns i nobody in
     made_more end_of (λ m. new_end m.node) (vec_items c.loop-neighbour.links) (vec_items c.push.new.self) ns ns i c.new.result n refl c.loop-neighbour-test.true
-    (get_or_default ns i nobody n c.loop-neighbour-test.true) c.new.ensures c.loop-neighbour.invariant c.in-ok-push.ensures.items
+    (get_or_default ns i nobody n c.loop-neighbour-test.true) c.new.ensures c.loop-neighbour.invariant c.in_ok-push.ensures.items
 
 pub returns : goal.returns
 returns c = made_all end_of (λ m. new_end m.node) (vec_items c.loop-neighbour.links) c.args.neighbours.now c.loop-neighbour.neighbour-index c.loop-neighbour-test.false c.loop-neighbour.invariant

@@ -30,14 +30,14 @@ pub loop-place-init : goal.loop-place-init
 unfolding fault_below
 loop-place-init c = refl
 
-pub returns-then-is-some : goal.returns-then-is-some
-returns-then-is-some c =
+pub returns-then-is_some : goal.returns-then-is_some
+returns-then-is_some c =
     let i = c.args.number in
     let ns = c.args.neighbours.now in
     let k = c.loop-place.place in
     let z : k - 0 ≡ k = omega arith in
-    let e = (rw z at c.neighbour-fault-fault.ensures) in
-    sym (checked i ns c.if-number-ge256.false c.if-neighbours-gt16.false ∙ fault_all i ns k c.neighbour-fault-fault.result c.loop-place-test.true (fault_more i ns k c.loop-place.invariant ∙ sym e) (sym c.if-is-some.ensures))
+    let e = (rw z at c.neighbour_fault-fault.ensures) in
+    sym (checked i ns c.if-number-ge256.false c.if-neighbours-gt16.false ∙ fault_all i ns k c.neighbour_fault-fault.result c.loop-place-test.true (fault_more i ns k c.loop-place.invariant ∙ sym e) (sym c.if-is_some.ensures))
 
 pub loop-place-preserved : goal.loop-place-preserved
 loop-place-preserved c =
@@ -45,5 +45,5 @@ loop-place-preserved c =
     let ns = c.args.neighbours.now in
     let k = c.loop-place.place in
     let z : k - 0 ≡ k = omega arith in
-    let e = (rw z at c.neighbour-fault-fault.ensures) in
-    fault_more i ns k c.loop-place.invariant ∙ (sym e ∙ no_fault c.neighbour-fault-fault.result (sym c.if-is-some.ensures))
+    let e = (rw z at c.neighbour_fault-fault.ensures) in
+    fault_more i ns k c.loop-place.invariant ∙ (sym e ∙ no_fault c.neighbour_fault-fault.result (sym c.if-is_some.ensures))

@@ -12,7 +12,7 @@ loop-neighbour-preserved c =
     let n = get_or ns i nobody in
     sym (map-id (vec_items c.push.new.self)) ∙
     made_more (λ w. w) (λ m. m.weight) (vec_items c.loop-neighbour.weights) (vec_items c.push.new.self) ns ns i n.weight n refl c.loop-neighbour-test.true
-    (get_or_default ns i nobody n c.loop-neighbour-test.true) refl (map-id (vec_items c.loop-neighbour.weights) ∙ c.loop-neighbour.invariant) c.in-ok-push.ensures.items
+    (get_or_default ns i nobody n c.loop-neighbour-test.true) refl (map-id (vec_items c.loop-neighbour.weights) ∙ c.loop-neighbour.invariant) c.in_ok-push.ensures.items
 
 pub returns : goal.returns
 returns c =

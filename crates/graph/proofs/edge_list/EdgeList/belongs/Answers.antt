@@ -1,8 +1,6 @@
 -- An edge belongs exactly if its ends are not joined by lighter ones.
-use Rattle.std.proofs.Common.{ℕ, ◌≤◌, vec_items, sym, subst, arith}
-use Rattle.graph.specs.Graph.{Belongs}
-use Rattle.graph.specs.Lists.{graph_of}
-use Rattle.graph.proofs.Search.{belongs_decides, decides_no}
+use Rattle.std.proofs.Common.{vec_items}
+use Rattle.graph.proofs.Search.{belongs_decides}
 use Rattle.graph.proofs.edge_list.EdgeList.belongs.Goals as goal
 
 pub returns-then-weight-ge1 : goal.returns-then-weight-ge1

@@ -1,5 +1,5 @@
 -- A search from one node sees the other exactly if they are joined.
-use Rattle.std.proofs.Common.{refl, inl, inr, arith, rules}
+use Rattle.std.proofs.Common.{refl, inl, inr, arith}
 use Rattle.graph.specs.Graph.{Joined}
 use Rattle.graph.specs.Lists.{graph_of}
 use Rattle.graph.proofs.Search.{decides_no, joined_inside, none_seen, seen_joined, joined_seen}

@@ -1,5 +1,5 @@
 -- The places in use of a node hold its neighbours; a node out of range has none.
-use Rattle.std.proofs.Common.{◌≡◌, ◌<◌, ◌≤◌, length, get_or, take, vec_items, sym, ap, ◌∙◌, arith}
+use Rattle.std.proofs.Common.{◌≡◌, get_or, take, vec_items, sym, ap, ◌∙◌, arith}
 use Rattle.std.proofs.lemmas.List.{get_or_read_under}
 use Rattle.graph.specs.Edges.{alone}
 use Rattle.graph.specs.declared.edge.Adjacent.{Adjacent}
@@ -12,8 +12,8 @@ returns-then-node-self c =
     let l = c.args.self.now in
     sym (neighbours_outside l.nodes (vec_items l.edges) (valid_each l.nodes (vec_items l.edges) l.valid) c.args.node c.if-node-self.true)
 
-pub in-use-requires : goal.in-use-requires
-in-use-requires c =
+pub in_use-requires : goal.in_use-requires
+in_use-requires c =
     let l = c.args.self.now in
     let e : c.index.result.now ≡ get_or (vec_items l.adjacent) c.args.node alone =
     get_or_read_under (vec_items l.adjacent) c.args.node l.nodes c.index.result.now alone c.index.ensures c.if-node-self.false (sym l.places ∙ l.adjacent.ok.0) in
@@ -26,4 +26,4 @@ returns c =
     let l = c.args.self.now in
     let e : c.index.result.now ≡ get_or (vec_items l.adjacent) c.args.node alone =
     get_or_read_under (vec_items l.adjacent) c.args.node l.nodes c.index.result.now alone c.index.ensures c.if-node-self.false (sym l.places ∙ l.adjacent.ok.0) in
-    c.in-use.ensures ∙ ap (λ (p : Adjacent). take p.degree p.to) e ∙ same_from_alike _ _ (l.held c.args.node c.if-node-self.false)
+    c.in_use.ensures ∙ ap (λ (p : Adjacent). take p.degree p.to) e ∙ same_from_alike _ _ (l.held c.args.node c.if-node-self.false)

@@ -11,11 +11,11 @@ loop-i-preserved c =
     let l = c.args.self.now in
     elim c.if-not-right.branch [
       | then-not-right w ↦
-          turn_wrong (graph_of l) (edges_of l) c.edges-e-items.result.now c.args.marks.now c.loop-i.i c.loop-i.found c.if-not-right.found c.right.result c.marks-at.result
-          c.edges-e-items.ensures c.marks-at.ensures c.right.ensures c.loop-i.invariant w.if-not-right.true (w.found-is ∙ w.lighter-of-found.ensures)
+          turn_wrong (graph_of l) (edges_of l) c.edges-e-items.result.now c.args.marks.now c.loop-i.i c.loop-i.found c.if-not-right.found c.right.result c.marks_at.result
+          c.edges-e-items.ensures c.marks_at.ensures c.right.ensures c.loop-i.invariant w.if-not-right.true (w.found-is ∙ w.lighter_of-found.ensures)
       | else-not-right w ↦
-          turn_right (graph_of l) (edges_of l) c.edges-e-items.result.now c.args.marks.now c.loop-i.i c.loop-i.found c.if-not-right.found c.right.result c.marks-at.result
-          c.edges-e-items.ensures c.marks-at.ensures c.right.ensures c.loop-i.invariant w.if-not-right.false w.found-is
+          turn_right (graph_of l) (edges_of l) c.edges-e-items.result.now c.args.marks.now c.loop-i.i c.loop-i.found c.if-not-right.found c.right.result c.marks_at.result
+          c.edges-e-items.ensures c.marks_at.ensures c.right.ensures c.loop-i.invariant w.if-not-right.false w.found-is
     ]
 
 pub returns : goal.returns

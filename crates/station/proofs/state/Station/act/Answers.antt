@@ -10,7 +10,7 @@ loop-place-init c =
 
 pub loop-place-preserved : goal.loop-place-preserved
 loop-place-preserved c =
-    c.in-ok-give-at.ensures ∙
+    c.in_ok-give_at.ensures ∙
     (ap (give_at c.loop-place.place (get_or c.args.turn.sends c.loop-place.place None)) c.loop-place.invariant ∙
     ap (λ v. record { number = c.args.self.now.number; node = c.args.turn.node; links = v })
     (sym (gave_more_lem c.args.turn.sends (state_of c.args.self.now).links c.loop-place.place (get_or c.args.turn.sends c.loop-place.place None) refl)))

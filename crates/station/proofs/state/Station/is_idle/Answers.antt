@@ -17,4 +17,4 @@ returns-else-place-len c =
     let ls = vec_items c.args.self.now.links in
     let e = c.args.self.now.links.ok.0 in
     let l = c.len.ensures in
-    c.is-idle.ensures ∙ sym (ap is_idle (link_read ls c.args.place c.index.result.now (omega (arith, c.if-place-len.false)) c.index.ensures))
+    c.is_idle.ensures ∙ sym (ap is_idle (link_read ls c.args.place c.index.result.now (omega (arith, c.if-place-len.false)) c.index.ensures))

@@ -6,5 +6,5 @@ use Rattle.station.proofs.state.Station.wake.Goals as goal
 
 pub returns : goal.returns
 returns c =
-    woke_did (state_of c.args.self.now) (state_of c.rouse.new.self) (vec_items c.new-sends.result) (vec_items c.push-all.new.sends) (vec_items c.new.result)
-    (c.in-ok-rouse.ensures ∙ ap woken c.in-ok-station.ensures) c.new-sends.ensures.items c.in-ok-push-all.ensures c.new.ensures.items
+    woke_did (state_of c.args.self.now) (state_of c.rouse.new.self) (vec_items c.new-sends.result) (vec_items c.push_all.new.sends) (vec_items c.new.result)
+    (c.in_ok-rouse.ensures ∙ ap woken c.in_ok-station.ensures) c.new-sends.ensures.items c.in_ok-push_all.ensures c.new.ensures.items

@@ -10,22 +10,22 @@ use Rattle.station.proofs.work.Work.look.Goals as goal
 pub returns-then-place-len : goal.returns-then-place-len
 returns-then-place-len c = let e = c.args.self.now.station.links.ok.0 in let l = c.len.ensures in sym (seen_past c.args.self.now c.args.place (omega (arith, c.if-place-len.true)))
 
-pub returns-in-default : goal.returns-in-default
-returns-in-default c =
+pub returns-in_default : goal.returns-in_default
+returns-in_default c =
     let e = c.args.self.now.station.links.ok.0 in
     let l = c.len.ensures in
-    sym (seen_nothing c.args.self.now c.args.place c.index.result.now (omega (arith, c.if-place-len.false)) c.index.ensures (sym c.in-default.is ∙ c.head.ensures))
+    sym (seen_nothing c.args.self.now c.args.place c.index.result.now (omega (arith, c.if-place-len.false)) c.index.ensures (sym c.in_default.is ∙ c.head.ensures))
 
-pub returns-in-ok-act : goal.returns-in-ok-act
-returns-in-ok-act c =
+pub returns-in_ok-act-in-Taken : goal.returns-in_ok-act-in-Taken
+returns-in_ok-act-in-Taken c =
     let w = c.args.self.now in
     let e = w.station.links.ok.0 in
     let l = c.len.ensures in
     let h : c.args.place < length (vec_items w.station.links) = omega (arith, c.if-place-len.false) in
     ap (λ v. record { state = v; refusals = vec_items w.refusals; took = true })
-    (c.in-ok-act.ensures ∙
+    (c.in_ok-act-in-Taken.ensures ∙
     ap (λ v. acted c.in-Taken.turn (record { number = w.station.number; node = w.station.node; links = v }))
-    (link_changed (vec_items w.station.links) c.args.place c.take-head.new.self c.index-mut.result.now taking h c.index-mut.ensures.value c.take-head.ensures)) ∙
+    (link_changed (vec_items w.station.links) c.args.place c.take_head.new.self c.index_mut.result.now taking h c.index_mut.ensures.value c.take_head.ensures)) ∙
     sym (seen_head w c.args.place c.index.result.now h c.index.ensures c.in-Some.message (Taken c.in-Taken.turn) (sym c.in-Some.is ∙ c.head.ensures) (sym c.in-Taken.is ∙ c.take.ensures))
 
 pub returns-in-Deferred : goal.returns-in-Deferred
@@ -35,16 +35,16 @@ returns-in-Deferred c =
     let l = c.len.ensures in
     let h : c.args.place < length (vec_items w.station.links) = omega (arith, c.if-place-len.false) in
     ap (λ v. record { state = record { number = w.station.number; node = w.station.node; links = v }; refusals = vec_items w.refusals; took = w.took })
-    (link_changed (vec_items w.station.links) c.args.place c.defer-head.new.self c.index-mut-in-Deferred.result.now deferring h c.index-mut-in-Deferred.ensures.value c.defer-head.ensures) ∙
+    (link_changed (vec_items w.station.links) c.args.place c.defer_head.new.self c.index_mut-in-Deferred.result.now deferring h c.index_mut-in-Deferred.ensures.value c.defer_head.ensures) ∙
     sym (seen_head w c.args.place c.index.result.now h c.index.ensures c.in-Some.message (Deferred c.in-Deferred.field-0) (sym c.in-Some.is ∙ c.head.ensures) (sym c.in-Deferred.is ∙ c.take.ensures))
 
-pub returns-in-ok-push : goal.returns-in-ok-push
-returns-in-ok-push c =
+pub returns-in_ok-push-in-Refused : goal.returns-in_ok-push-in-Refused
+returns-in_ok-push-in-Refused c =
     let w = c.args.self.now in
     let e = w.station.links.ok.0 in
     let l = c.len.ensures in
     let h : c.args.place < length (vec_items w.station.links) = omega (arith, c.if-place-len.false) in
     ap (λ v. record { state = record { number = w.station.number; node = w.station.node; links = v }; refusals = vec_items c.push.new.self; took = true })
-    (link_changed (vec_items w.station.links) c.args.place c.take-head-in-Refused.new.self c.index-mut-in-Refused.result.now taking h c.index-mut-in-Refused.ensures.value c.take-head-in-Refused.ensures) ∙
-    (ap (λ v. record { state = with_link c.args.place (taking (link_at (state_of w.station) c.args.place)) (state_of w.station); refusals = v; took = true }) c.in-ok-push.ensures.items ∙
+    (link_changed (vec_items w.station.links) c.args.place c.take_head-in-Refused.new.self c.index_mut-in-Refused.result.now taking h c.index_mut-in-Refused.ensures.value c.take_head-in-Refused.ensures) ∙
+    (ap (λ v. record { state = with_link c.args.place (taking (link_at (state_of w.station) c.args.place)) (state_of w.station); refusals = v; took = true }) c.in_ok-push-in-Refused.ensures.items ∙
     sym (seen_head w c.args.place c.index.result.now h c.index.ensures c.in-Some.message (Refused c.in-Refused.field-0 c.in-Refused.refusal) (sym c.in-Some.is ∙ c.head.ensures) (sym c.in-Refused.is ∙ c.take.ensures)))

@@ -16,7 +16,7 @@ loop-look-init c = sym (looks_none c.args.place (progress_of c.args.self.now))
 
 pub loop-look-preserved : goal.loop-look-preserved
 loop-look-preserved c =
-    c.in-ok-look.ensures ∙ (ap (look c.args.place) c.loop-look.invariant ∙ sym (looks_more c.args.place c.loop-look.-look (progress_of c.args.self.now)))
+    c.in_ok-look.ensures ∙ (ap (look c.args.place) c.loop-look.invariant ∙ sym (looks_more c.args.place c.loop-look._look (progress_of c.args.self.now)))
 
 pub returns : goal.returns
 returns c =
@@ -24,6 +24,6 @@ returns c =
     let l = c.len.ensures in
     let z = waits_here c.args.self.now c.args.place c.index.result.now (omega (arith, c.if-place-len.false)) c.index.ensures in
     let w = c.waiting-look-end.ensures in
-    let k = c.loop-look.auto.-look-end in
-    let n : c.loop-look.-look ≡ waiting_at c.args.place (progress_of c.args.self.now) = omega (arith, c.loop-look-test.false) in
+    let k = c.loop-look.auto._look-end in
+    let n : c.loop-look._look ≡ waiting_at c.args.place (progress_of c.args.self.now) = omega (arith, c.loop-look-test.false) in
     c.loop-look.invariant ∙ ap (λ v. looks c.args.place v (progress_of c.args.self.now)) n

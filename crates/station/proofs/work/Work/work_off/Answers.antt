@@ -14,10 +14,10 @@ last : (p q s : Progress) → q ≡ lap p → q.took ≡ false → works p ≡ w
 last p q s e t i = e ∙ (works_last p (ap (λ v. v.took) (sym e) ∙ t) ∙ i)
 
 pub rounds-smaller : goal.rounds-smaller
-rounds-smaller c = took_lap (progress_of c.rounds.self) (progress_of c.round.new.self) c.in-ok-round.ensures c.if-not-self.false
+rounds-smaller c = took_lap (progress_of c.rounds.self) (progress_of c.round.new.self) c.in_ok-round.ensures c.if-not-self.false
 
 pub rounds-preserved : goal.rounds-preserved
-rounds-preserved c = on (progress_of c.rounds.self) (progress_of c.round.new.self) (progress_of c.args.self.now) c.in-ok-round.ensures c.if-not-self.false c.rounds.invariant
+rounds-preserved c = on (progress_of c.rounds.self) (progress_of c.round.new.self) (progress_of c.args.self.now) c.in_ok-round.ensures c.if-not-self.false c.rounds.invariant
 
 pub returns-then-not-self : goal.returns-then-not-self
-returns-then-not-self c = last (progress_of c.rounds.self) (progress_of c.round.new.self) (progress_of c.args.self.now) c.in-ok-round.ensures c.if-not-self.true c.rounds.invariant
+returns-then-not-self c = last (progress_of c.rounds.self) (progress_of c.round.new.self) (progress_of c.args.self.now) c.in_ok-round.ensures c.if-not-self.true c.rounds.invariant
