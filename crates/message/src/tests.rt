@@ -127,7 +127,7 @@ fn acknowledgements(rt: HostRuntime) -> Result<(), Fail> {
         number: 0xff00_0102,
     };
     let bytes = last.encode(rt.alloc())?;
-    assert!(rt; bytes.as_slice() == &[72, 255, 0, 1, 2, 1, 74]);
+    assert!(rt; bytes.as_slice() == [72, 255, 0, 1, 2, 1, 74].as_slice());
     let Ok(back) = Acknowledgement::decode(bytes.as_slice()) else {
         return Err(Fail::new("not decoded"));
     };
