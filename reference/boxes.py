@@ -4,7 +4,7 @@ import subprocess
 import sys
 
 ROOT = os.path.dirname(os.path.dirname(os.path.abspath(__file__)))
-PROGRAM = os.path.join(ROOT, 'target', 'bin', 'housebox')
+PROGRAM = os.path.join(ROOT, 'crates', 'housebox', 'out', 'housebox')
 
 
 def built():

@@ -1,5 +1,5 @@
 -- What is printed.
-use Rattle.std.specs.Prelude.{ℕ, zero, suc, Bool, true, false, cond, List, [], ◌∷◌, ◌++◌, length, codes, decimal, nat_lt, slice_index_or}
+use Rattle.std.specs.Prelude.{ℕ, zero, suc, cond, List, [], ◌++◌, length, codes, decimal, nat_lt, slice_index_or}
 use Rattle.std.specs.List.{flat_map}
 use Rattle.message.specs.declared.refusals.Refusal.{Refusal}
 use Rattle.message.specs.declared.refusals.Refusal.TheVariants.{Malformed, NotNext, NotAwaited, NoSuchEdge, OutOfPlace, ForeignPage, UnsoundGraph}

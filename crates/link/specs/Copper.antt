@@ -1,5 +1,5 @@
 -- One direction of a link over bad copper: who hands messages over, who takes them, and what the copper may do.
-use Rattle.std.specs.Prelude.{◌≡◌, ℕ, suc, Bool, true, false, cond, ◌⊎◌, List, [], ◌∷◌, ◌++◌, Some, Ok, Err, Result}
+use Rattle.std.specs.Prelude.{◌≡◌, ℕ, suc, true, cond, ◌⊎◌, List, [], ◌∷◌, ◌++◌, Some, Ok, Err, Result}
 use Rattle.message.specs.declared.refusals.Refusal.{Refusal}
 use Rattle.message.specs.declared.refusals.Refusal.TheVariants.{Malformed}
 use Rattle.message.specs.declared.messages.Message.{Message}

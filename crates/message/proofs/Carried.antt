@@ -1,5 +1,5 @@
 -- Packets and acknowledgements come back from their bytes, and from no others.
-use Rattle.std.proofs.Common.{◌≡◌, ℕ, ◌+◌, ◌-◌, ◌*◌, ◌<◌, ◌≤◌, Bool, true, false, cond, ◌&&◌, eqb, leb, List, [], ◌∷◌, ◌++◌, length, get_or, take, drop, Ok, Err, Result, sym, refl, ap, ◌∙◌, arith, lit≤, length-append, length-drop, length-take, get_or-drop, get_or-take, take-add, rules}
+use Rattle.std.proofs.Common.{◌≡◌, ℕ, ◌+◌, ◌-◌, ◌<◌, ◌≤◌, Bool, true, false, cond, ◌&&◌, eqb, leb, List, [], ◌∷◌, ◌++◌, length, get_or, take, drop, Ok, Err, Result, sym, refl, ap, ◌∙◌, arith, lit≤, length-append, length-take, get_or-drop, get_or-take, take-add, rules}
 use lib.Seq.{take-append_seam}
 use Rattle.message.specs.declared.refusals.Refusal.{Refusal}
 use Rattle.message.specs.declared.refusals.Refusal.TheVariants.{Malformed}
@@ -8,12 +8,11 @@ use Rattle.message.specs.declared.messages.Phase.TheVariants.{Find, Found}
 use Rattle.message.specs.declared.messages.Message.{Message}
 use Rattle.message.specs.declared.messages.Message.TheVariants.{Connect, Initiate, Test, Accept, Reject, Report, Change}
 use Rattle.message.specs.declared.packets.Packet.{Packet}
-use Rattle.message.specs.declared.packets.Acknowledgement.{Acknowledgement}
-use Rattle.message.specs.Bytes.{word, word_at, message_bytes, message_of, fits, sealed, is_sealed, checksum_of, packet_bytes, packet_of, numbered, acknowledgement_bytes, acknowledgement_of}
-use Rattle.message.specs.Laws.{Bytes, Short, ShortMessage, MessageReturns, PacketReturns, PacketDecodedOnly, AcknowledgementReturns, AcknowledgementDecodedOnly}
+use Rattle.message.specs.Bytes.{word, word_at, message_bytes, message_of, sealed, is_sealed, packet_bytes, numbered}
+use Rattle.message.specs.Laws.{Bytes, MessageReturns, PacketReturns, PacketDecodedOnly, AcknowledgementReturns, AcknowledgementDecodedOnly}
 use Rattle.message.proofs.Words.{word_back}
 use Rattle.message.proofs.Decoded.{decoded_only}
-use Rattle.message.proofs.Sealed.{seal, front, is_sealed_lem, sealed_back}
+use Rattle.message.proofs.Sealed.{seal, is_sealed_lem, sealed_back}
 
 pub message_returns : MessageReturns
 message_returns (Connect l) h f = search rules

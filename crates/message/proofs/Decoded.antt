@@ -1,10 +1,9 @@
 -- Bytes that are decoded to a message are the bytes of that message.
-use Rattle.std.proofs.Common.{◌≡◌, ℕ, ◌<◌, ◌≤◌, Bool, true, false, cond, ◌&&◌, eqb, leb, List, [], ◌∷◌, ◌++◌, length, get_or, Ok, Err, sym, refl, ap, arith, lit<}
+use Rattle.std.proofs.Common.{◌≡◌, ℕ, ◌<◌, ◌≤◌, true, false, eqb, List, [], ◌∷◌, length, Ok, Err, arith, lit<}
 use Rattle.message.specs.declared.refusals.Refusal.TheVariants.{Malformed}
 use Rattle.message.specs.declared.messages.Message.{Message}
-use Rattle.message.specs.declared.messages.Message.TheVariants.{Connect, Initiate, Test, Accept, Reject, Report, Change}
-use Rattle.message.specs.Bytes.{word, word_at, message_bytes, message_of, fits}
-use Rattle.message.specs.Laws.{Bytes, MessageDecodedOnly}
+use Rattle.message.specs.Bytes.{message_bytes, message_of, fits}
+use Rattle.message.specs.Laws.{MessageDecodedOnly}
 use Rattle.message.proofs.Words.{word_back}
 
 abbrev Only : List ℕ → Message → Type 0

@@ -1,5 +1,5 @@
 -- A sum behind the bytes is found again, and only behind the bytes that it sums up.
-use Rattle.std.proofs.Common.{◌≡◌, ℕ, ◌+◌, ◌-◌, ◌*◌, ◌/◌, ◌%◌, ◌<◌, ◌≤◌, true, List, [], ◌∷◌, ◌++◌, length, get_or, take, drop, sym, refl, ap, ◌∙◌, arith, length-append, take-append-drop, drop_of_length-le}
+use Rattle.std.proofs.Common.{◌≡◌, ℕ, ◌+◌, ◌-◌, ◌*◌, ◌/◌, ◌%◌, ◌≤◌, true, List, [], ◌∷◌, ◌++◌, length, get_or, take, drop, sym, ap, ◌∙◌, arith, length-append, take-append-drop, drop_of_length-le}
 use lib.Seq.{take-append_seam}
 use Rattle.std.proofs.lemmas.List.{drop_more, get_or-append-add}
 use Rattle.message.specs.Bytes.{checksum_of, sealed, is_sealed}

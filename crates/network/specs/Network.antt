@@ -1,5 +1,5 @@
 -- Stations by number, what an event does to them, and the copper between them, which loses, doubles, delays, reorders and damages.
-use Rattle.std.specs.Prelude.{◌≡◌, ℕ, zero, suc, ◌<◌, Bool, true, false, cond, List, [], ◌∷◌, ◌++◌, length, take, ◌==◌, slice_index_or, slice_set}
+use Rattle.std.specs.Prelude.{ℕ, zero, suc, ◌<◌, Bool, true, false, cond, List, [], ◌∷◌, ◌++◌, length, take, ◌==◌, slice_index_or, slice_set}
 use Rattle.graph.specs.declared.edge.WeightedEdge.{WeightedEdge}
 use Rattle.graph.specs.Edges.{neighbours_of}
 use Rattle.message.specs.Bytes as message

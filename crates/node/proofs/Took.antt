@@ -4,7 +4,7 @@ use Rattle.message.specs.declared.refusals.Refusal.{Refusal}
 use Rattle.message.specs.declared.refusals.Refusal.TheVariants.{NoSuchEdge, OutOfPlace}
 use Rattle.message.specs.declared.messages.Phase.TheVariants as phase
 use Rattle.message.specs.declared.messages.Outgoing.{Outgoing}
-use Rattle.message.specs.declared.messages.Outgoing.TheVariants.{Nothing, Weight}
+use Rattle.message.specs.declared.messages.Outgoing.TheVariants.{Weight}
 use Rattle.message.specs.declared.messages.Message.{Message}
 use Rattle.message.specs.declared.messages.Message.TheVariants.{Connect, Initiate, Test, Accept, Reject, Report, Change}
 use Rattle.message.specs.Bytes.{fits}

@@ -8,7 +8,7 @@ use Rattle.message.specs.Bytes as message
 use Rattle.message.specs.Bytes.{word, checksum_of, message_bytes}
 use Rattle.link.specs.Ends.{End}
 use Rattle.station.specs.State.{State}
-use Rattle.page.specs.Page.{pair, node_bytes, queue_bytes, link_bytes, body_bytes, page_bytes, numbers_fit, link_fits, node_fits, head_fits, fields_fit, fits}
+use Rattle.page.specs.Page.{node_bytes, queue_bytes, link_bytes, body_bytes, page_bytes, numbers_fit, link_fits, node_fits, head_fits, fields_fit, fits}
 use Rattle.page.specs.Reading.{node_front, queue_front, link_front, links_front, state_front, if_page}
 use Rattle.page.specs.Laws.{ShortEnd, ShortState, PageReturns, PageReadOnly, PageShort}
 use Rattle.page.proofs.Fronts.{link_all, links_none, links_more, state_all}

@@ -7,7 +7,7 @@ use Rattle.message.specs.declared.messages.Message.TheVariants.{Connect, Initiat
 use Rattle.message.specs.Bytes.{fits, message_bytes}
 use Rattle.message.specs.Laws.{ShortMessage}
 use Rattle.message.proofs.Carried.{message_returns}
-use Rattle.page.specs.Page.{pair, queue_bytes}
+use Rattle.page.specs.Page.{queue_bytes}
 use Rattle.page.specs.Reading.{with_rest, message_front, messages_front, queue_front}
 use Rattle.page.proofs.Fronts.{front_read, messages_none, messages_more, queue_read}
 

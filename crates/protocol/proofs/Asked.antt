@@ -16,7 +16,7 @@ use Rattle.protocol.proofs.Control.{control1}
 use Rattle.protocol.proofs.Deed.{woke, got, one, Deed, Alone, WokeTo, Absorbs, Merges, Begins, Searches-ask, Searches-report, Searches-wait, Accepts, Rejects, Crosses-ask, Crosses-report, Crosses-wait, Accepted-report, Accepted-wait, Rejected-ask, Rejected-report, Rejected-wait, Hears-report, Hears-wait, Decides-passes, Decides-joins, Halts, Rests, Changed-passes, Changed-joins}
 use Rattle.protocol.proofs.Deeds.{to_self, to_other, Knows, Suits, Fresh}
 use Rattle.protocol.proofs.Else.{Labels}
-use Rattle.protocol.proofs.Ghost.{View, turn, mine, follow, acted}
+use Rattle.protocol.proofs.Ghost.{View, turn, follow, acted}
 use Rattle.protocol.proofs.Heads.{head_absorb, head_merge, head_begin, head_turn, head_change}
 use Rattle.protocol.proofs.Held.{Send, Held, rejecting, testing_now, hearing, bettering, onward, send_to}
 use Rattle.protocol.proofs.Mode.{Mode}

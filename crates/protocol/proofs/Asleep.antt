@@ -5,7 +5,6 @@ use Rattle.message.specs.declared.messages.Message.{Message}
 use Rattle.message.specs.declared.messages.Outgoing.TheVariants.{Nothing}
 use Rattle.node.specs.declared.state.Status.TheVariants.{Sleeping}
 use Rattle.node.specs.declared.state.Mark.TheVariants.{Basic}
-use Rattle.node.specs.Rules.{silent}
 use Rattle.graph.specs.Graph.{Graph, Edge, Weights}
 use Rattle.protocol.proofs.Base.{Good}
 use Rattle.protocol.proofs.Deed.{woke, In, got, Deed, Alone, WokeTo, Absorbs, Merges, Begins, Searches-ask, Searches-report, Searches-wait, Accepts, Rejects, Crosses-ask, Crosses-report, Crosses-wait, Accepted-report, Accepted-wait, Rejected-ask, Rejected-report, Rejected-wait, Hears-report, Hears-wait, Decides-passes, Decides-joins, Halts, Rests, Changed-passes, Changed-joins}

@@ -10,7 +10,7 @@ use Rattle.node.specs.declared.state.Status.{Status}
 use Rattle.node.specs.declared.state.Status.TheVariants.{Sleeping, Find, Found}
 use Rattle.node.specs.declared.state.Mark.{Mark}
 use Rattle.node.specs.declared.state.Mark.TheVariants.{Basic, Branch, Rejected}
-use Rattle.node.specs.Rules.{is_branch, is_find, phase_of, lighter, silent}
+use Rattle.node.specs.Rules.{is_branch, is_find, phase_of, lighter}
 use Rattle.graph.specs.Graph.{Graph}
 use Rattle.protocol.proofs.Chain.{calls_more, down_low}
 use Rattle.protocol.proofs.Control.{control1, control, control-++}

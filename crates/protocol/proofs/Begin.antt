@@ -12,7 +12,6 @@ use Rattle.protocol.proofs.Chain.{bool, busy_more, calls_more, chain_low, down_l
 use Rattle.protocol.proofs.Ghost.{begin, View, follow, acted}
 use Rattle.protocol.proofs.Held.{Held}
 use Rattle.protocol.proofs.Mode.{tells, busy, Child, Mode, free, offered, offers, crossing, took, taken, merged, ahead, behind, core, told, above, below, Sane}
-use Rattle.protocol.specs.Net.{still}
 use Rattle.message.specs.declared.messages.Phase.TheVariants as phase
 
 -- the node afterwards, whatever it asks or waits for

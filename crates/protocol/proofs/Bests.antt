@@ -4,7 +4,6 @@ use Rattle.std.proofs.lemmas.Bool.Decides.{eqb_tells}
 use Rattle.message.specs.declared.messages.Message.{Message}
 use Rattle.message.specs.declared.messages.Outgoing.TheVariants.{Nothing}
 use Rattle.node.specs.declared.state.Status.TheVariants.{Find}
-use Rattle.node.specs.Rules.{lightest}
 use Rattle.graph.specs.Graph.{Graph, Edge, Weights}
 use Rattle.protocol.proofs.Base.{Good}
 use Rattle.protocol.proofs.Choice.{Choice, Answered, talk_answered, Spread, spreads, spreads_wake, choice_acts, choice_wake, choice_far}
@@ -13,13 +12,13 @@ use Rattle.protocol.proofs.Deed.{woke, In, got}
 use Rattle.protocol.proofs.Deeds.{Quiet, Knows, Suits}
 use Rattle.protocol.proofs.Edges.{Rest, Edges, first, labels, shorter, next, apart, turned}
 use Rattle.protocol.proofs.Frame.{Lifted, start, Act, Off, Event, act, off}
-use Rattle.protocol.proofs.Ghost.{Ghost, View, view, turn, inside, follow, acted, stepped}
+use Rattle.protocol.proofs.Ghost.{Ghost, View, view, turn, follow, acted, stepped}
 use Rattle.protocol.proofs.Held.{Send, Held}
 use Rattle.protocol.proofs.Leading.{leads_far, leads_over, leads_beside, leads_partner, leads_wake, leads_woken}
 use Rattle.protocol.proofs.Leads.{Leads}
 use Rattle.protocol.proofs.Mode.{Mode, Sane}
 use Rattle.protocol.proofs.Questions.{Talks}
-use Rattle.protocol.proofs.Talk.{asks, replies, Talk, inner}
+use Rattle.protocol.proofs.Talk.{asks, replies, Talk}
 use Rattle.protocol.proofs.Views.{view_else, view_acted}
 
 -- leads: a best edge leads out of the fragment, or down to one that reported it; choice: what each node knows of its own

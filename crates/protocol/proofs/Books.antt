@@ -12,7 +12,6 @@ use Rattle.protocol.proofs.Frame.{Took, start, Lifted, Ready, Act, Off}
 use Rattle.protocol.proofs.Ghost.{Own, Ghost, View, view, turn, mine, stepped}
 use Rattle.protocol.proofs.Held.{Send, Held, is_none}
 use Rattle.protocol.proofs.Purse.{Purse, bit, is_ruled, weigh, load, load-++, cell, due, paid, gain, booked, OwesIn, weigh_in, Clean, row, balance, FromIn, gain_sum, five, Fair, fair, Comes, gain_line}
-use Rattle.protocol.proofs.Questions.{asked}
 use Rattle.protocol.proofs.Sum.{sum, sum_le, sum_zero, at, sum_one, sum_same, sum_add, sum_only, sum_swap, pairs, square, pairs_le}
 
 -- the end at a of the edge to k; an edge only; and all that node a is charged with

@@ -7,8 +7,7 @@ use Rattle.message.specs.declared.messages.Outgoing.{Outgoing}
 use Rattle.message.specs.declared.messages.Outgoing.TheVariants.{Nothing, Weight}
 use Rattle.node.specs.declared.state.Status.{Status}
 use Rattle.node.specs.declared.state.Status.TheVariants.{Find}
-use Rattle.node.specs.declared.state.Mark.{Mark}
-use Rattle.node.specs.declared.state.Mark.TheVariants.{Basic, Branch, Rejected}
+use Rattle.node.specs.declared.state.Mark.TheVariants.{Branch}
 use Rattle.node.specs.declared.state.Node.{Node}
 use Rattle.node.specs.declared.state.Turn.{Turn}
 use Rattle.node.specs.Rules.{is_basic, is_sleeping, is_find, phase_of, is_nothing, lighter, is_edge, has_edge, mark_of, weight_of, silent}

@@ -3,7 +3,6 @@ use Rattle.std.proofs.Common.{◌≡◌, ℕ, zero, suc, ◌+◌, ◌<◌, ◌�
 use Rattle.std.proofs.lemmas.Bool.Decides.{eqb_tells}
 use Rattle.node.specs.Rules.{Sends}
 use Rattle.node.specs.Laws.{sent_over}
-use Rattle.protocol.proofs.Deed.{one}
 use Rattle.protocol.proofs.Held.{Send}
 use Rattle.protocol.proofs.Lift.{Once, once_rest, once_head}
 use Rattle.protocol.proofs.Outs.{out_to}

@@ -1,11 +1,11 @@
 -- What a node knows of the best edge that it has found, and how far a turn reaches.
-use Rattle.std.proofs.Common.{◌≡◌, ℕ, ◌<◌, ◌≤◌, true, false, T, List, ◌∷◌, ◌++◌, Some, None, refl, inl, inr, arith}
+use Rattle.std.proofs.Common.{◌≡◌, ℕ, ◌<◌, ◌≤◌, true, false, List, ◌∷◌, ◌++◌, Some, None, refl, inl, inr, arith}
 use Rattle.std.proofs.lemmas.Bool.Decides.{eqb_tells}
 use Rattle.message.specs.declared.messages.Message.{Message}
 use Rattle.message.specs.declared.messages.Message.TheVariants.{Connect, Initiate, Test, Accept, Reject, Report, Change}
 use Rattle.message.specs.declared.messages.Outgoing.TheVariants.{Nothing, Weight}
 use Rattle.node.specs.declared.state.Mark.TheVariants.{Basic}
-use Rattle.node.specs.Rules.{lighter, lightest}
+use Rattle.node.specs.Rules.{lighter}
 use Rattle.graph.specs.Graph.{Graph, Edge}
 use Rattle.protocol.proofs.Base.{Local}
 use Rattle.protocol.proofs.Control.{control1}

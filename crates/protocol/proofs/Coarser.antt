@@ -5,7 +5,7 @@ use Rattle.node.specs.declared.state.Mark.TheVariants.{Branch}
 use Rattle.graph.specs.Graph.{Graph, Edge, Weights}
 use Rattle.protocol.proofs.Base.{Good}
 use Rattle.protocol.proofs.Deed.{woke, got, Deed, Alone, WokeTo}
-use Rattle.protocol.proofs.Edges.{Edges, labels, next, apart}
+use Rattle.protocol.proofs.Edges.{Edges, next, apart}
 use Rattle.protocol.proofs.Frame.{Lifted, Event, act, off}
 use Rattle.protocol.proofs.Ghost.{Turn, Ghost, view, turn, stepped}
 use Rattle.protocol.proofs.Held.{Send, Held}

@@ -10,7 +10,6 @@ use Rattle.node.specs.declared.state.Mark.TheVariants.{Basic, Branch}
 use Rattle.node.specs.Rules.{is_basic, is_find, phase_of, is_nothing, lighter}
 use Rattle.graph.specs.Graph.{Graph}
 use Rattle.protocol.proofs.Held.{Send, Held, is_none, put, marking, rejecting, testing_now, finding, counting, hearing, halting, bettering, joining, onward, send_to, woken_held}
-use Rattle.protocol.specs.Net.{over}
 use Rattle.message.specs.declared.messages.Phase.TheVariants as phase
 
 -- what a node acts on: it wakes, or takes a message from j

@@ -18,7 +18,7 @@ use Rattle.protocol.proofs.Control.{control1, control, control-++}
 use Rattle.protocol.proofs.Deed.{woke, got, one, Deed, Alone, WokeTo, Absorbs, Merges, Begins, Searches-ask, Searches-report, Searches-wait, Accepts, Rejects, Crosses-ask, Crosses-report, Crosses-wait, Accepted-report, Accepted-wait, Rejected-ask, Rejected-report, Rejected-wait, Hears-report, Hears-wait, Decides-passes, Decides-joins, Halts, Rests, Changed-passes, Changed-joins}
 use Rattle.protocol.proofs.Else.{Labels, Apart, else_absorb, else_merge, else_again, else_end, else_idle}
 use Rattle.protocol.proofs.Outs.{out_to, out_to-++, out_to_onward}
-use Rattle.protocol.proofs.Ghost.{Least, undecided, decided, View, idle, report, turn, mine, inside, follow, acted}
+use Rattle.protocol.proofs.Ghost.{Least, undecided, decided, View, idle, report, turn, follow, acted}
 use Rattle.protocol.proofs.Heads.{head_absorb, head_merge, head_begin, head_turn, head_end, head_change, head_hears}
 use Rattle.protocol.proofs.Held.{Send, Held, put, marking, rejecting, testing_now, finding, counting, hearing, bettering, branches_but, joining, onward, send_to, woken_held}
 use Rattle.protocol.proofs.Mode.{calls, Mode, Sane}

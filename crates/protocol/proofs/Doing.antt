@@ -17,7 +17,7 @@ use Rattle.protocol.proofs.Deed.{In, one, opens, Picks, Nobody, Deed}
 use Rattle.protocol.proofs.Held.{Send, Held, rejecting, testing_now, finding, send_to}
 use Rattle.protocol.proofs.Lift.{toward, held_of}
 use Rattle.protocol.proofs.Outs.{out_to}
-use Rattle.protocol.proofs.Shape.{few, Shape, inside_of, held_rejecting, picks_basic, nobody_basic}
+use Rattle.protocol.proofs.Shape.{Shape, inside_of, held_rejecting, picks_basic, nobody_basic}
 use Rattle.protocol.specs.Net.{over}
 use Rattle.node.specs.Rules as rules
 

@@ -20,7 +20,7 @@ use Rattle.protocol.proofs.Ghost.{Own, Ghost, View, view}
 use Rattle.protocol.proofs.Held.{Send, Held}
 use Rattle.protocol.proofs.Mode.{tells, Chain, Down, Mode, free, offered, offers, crossing, took, taken, merged, ahead, behind, core, told, above, below, Sane}
 use Rattle.protocol.proofs.Purse.{Purse, bit, is_ruled, booked, Owes, OwesIn}
-use Rattle.protocol.proofs.Sum.{sum, sum_zero, at, sum_only}
+use Rattle.protocol.proofs.Sum.{sum, sum_zero, sum_only}
 use Rattle.message.specs.declared.messages.Phase.TheVariants as phase
 
 chain_inits : (L F : ℕ) (S : Status) (l f : ℕ) (p : List Message) → Chain L F S l f p → l + inits p ≤ L

@@ -13,7 +13,7 @@ use Rattle.protocol.proofs.Deeds.{Quiet, Knows, Suits, acts_over, acts_beside, F
 use Rattle.protocol.proofs.Else.{Labels, Apart, else_absorb, else_merge, else_again, else_decide, else_end, else_starts, else_idle, else_begin, else_report, else_change}
 use Rattle.protocol.proofs.Outs.{out_to}
 use Rattle.protocol.proofs.Frame.{Later, Lifted, start, Took, Act, Off, Event, act, off}
-use Rattle.protocol.proofs.Ghost.{undecided, Ghost, View, view, turn, mine, inside, follow, stepped}
+use Rattle.protocol.proofs.Ghost.{undecided, Ghost, View, view, turn, follow, stepped}
 use Rattle.protocol.proofs.Heads.{head_absorb, head_merge, head_turn, head_end, head_change, alone_connect, alone_report}
 use Rattle.protocol.proofs.Held.{Send, Held}
 use Rattle.protocol.proofs.Mode.{tells, Mode, free, offered, offers, crossing, took, taken, merged, ahead, behind, core, told, above, below, Sane}

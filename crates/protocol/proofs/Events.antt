@@ -24,8 +24,7 @@ use Rattle.protocol.proofs.Queues.{Has, has-++, has_off}
 use Rattle.protocol.proofs.Shape.{Shape, inside_of}
 use Rattle.node.proofs.Took.{Came, came, woke as wokeOf}
 use Rattle.protocol.proofs.Frame.{Took as TookFrom}
-use Rattle.node.specs.Rules.{takes}
-use Rattle.protocol.specs.Net.{Net, Near, Placed, Step, waking, taking, deferring, neighbour, after, queueing, over, messages, start as netStart}
+use Rattle.protocol.specs.Net.{Net, Near, Step, waking, taking, deferring, neighbour, after, queueing, messages, start as netStart}
 
 -- the net by neighbours
 abbrev pub lift : Near → Net → Lifted

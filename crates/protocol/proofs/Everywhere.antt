@@ -1,8 +1,8 @@
 -- Where all nodes can be joined, what holds of a node's component holds of the graph.
-use Rattle.std.proofs.Common.{◌≡◌, ℕ, zero, suc, ◌+◌, ◌<◌, ◌≤◌, true, ltb, List, [], ◌∷◌, ◌++◌, sym, refl, ◌∙◌, arith}
+use Rattle.std.proofs.Common.{◌≡◌, ℕ, zero, suc, ◌<◌, true, ltb, List, [], ◌∷◌, ◌++◌, sym, refl, ◌∙◌, arith}
 use Rattle.message.specs.declared.messages.Message.{Message}
 use Rattle.graph.specs.Graph.{Graph}
-use Rattle.protocol.specs.Net.{Run, still, more, neighbour}
+use Rattle.protocol.specs.Net.{still, more, neighbour}
 use Rattle.protocol.specs.Theorems.{members, Closed}
 use Rattle.protocol.specs.Whole.{WholeMain, WholeRests, WholeLevels, WholeEnds, WholeNeverStuck}
 use Rattle.protocol.proofs.Reaches.{levels_low}

@@ -13,15 +13,12 @@ use Rattle.protocol.proofs.Bests.{Bests}
 use Rattle.protocol.proofs.Control.{control1, control, control-++}
 use Rattle.protocol.proofs.Deed.{In, woke, got, one, Deed, Alone, WokeTo, Absorbs, Merges, Begins, Searches-ask, Searches-report, Searches-wait, Accepts, Rejects, Crosses-ask, Crosses-report, Crosses-wait, Accepted-report, Accepted-wait, Rejected-ask, Rejected-report, Rejected-wait, Hears-report, Hears-wait, Decides-passes, Decides-joins, Halts, Rests, Changed-passes, Changed-joins}
 use Rattle.protocol.proofs.Deeds.{to_self, onward_self}
-use Rattle.protocol.proofs.Doing.{reported}
 use Rattle.protocol.proofs.Edges.{offs, Edges, first, next, apart, turned}
 use Rattle.protocol.proofs.Frame.{start, Lifted, Act, Off, Event, act, off}
 use Rattle.protocol.proofs.Ghost.{Turn, Ghost, View, view, turn, mine, stepped}
 use Rattle.protocol.proofs.Held.{Send, Held, onward, send_to}
-use Rattle.protocol.proofs.LeastKept.{some}
 use Rattle.protocol.proofs.Mode.{tells, Told, Core, Mode, free, offered, offers, crossing, took, taken, merged, ahead, behind, core, told, above, below, Sane}
 use Rattle.protocol.proofs.Outs.{out_to}
-use Rattle.protocol.proofs.Sizes.{is}
 use Rattle.protocol.proofs.Tips.{up_parent_lem, ends_differ}
 use Rattle.message.specs.declared.messages.Phase.TheVariants as phase
 

@@ -19,7 +19,7 @@ use Rattle.protocol.proofs.Ghost.{Ghost, view, turn, stepped}
 use Rattle.protocol.proofs.Held.{Send, Held}
 use Rattle.protocol.proofs.Mode.{Mode, Sane}
 use Rattle.protocol.proofs.Purse.{Purse, rejects, OwesIn, five, Fair, Comes}
-use Rattle.protocol.proofs.Sum.{sum, at, pairs}
+use Rattle.protocol.proofs.Sum.{sum, pairs}
 use Rattle.protocol.specs.Count.{edges_below, edges_among, edge_count}
 
 -- what the invariants have to give of answers under way, and of those who sleep

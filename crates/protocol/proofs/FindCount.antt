@@ -20,7 +20,7 @@ use Rattle.protocol.proofs.Deeds.{Quiet, Knows, Suits, Fresh}
 use Rattle.protocol.proofs.Edges.{offs, Rest, Edges, first, shorter, next, apart, turned}
 use Rattle.protocol.proofs.Outs.{out_to}
 use Rattle.protocol.proofs.Frame.{Took, Lifted, start, Act, Off, Event, act, off}
-use Rattle.protocol.proofs.Ghost.{Ghost, View, view, turn, mine, inside, stepped}
+use Rattle.protocol.proofs.Ghost.{Ghost, View, view, turn, mine, stepped}
 use Rattle.protocol.proofs.Heads.{head_hears}
 use Rattle.protocol.proofs.Held.{Send, Held}
 use Rattle.protocol.proofs.Mode.{busy, calls, Child, Mode, Sane}

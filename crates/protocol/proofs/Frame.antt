@@ -10,7 +10,6 @@ use Rattle.protocol.proofs.Deed.{In, woke, got, Deed}
 use Rattle.protocol.proofs.Held.{Send, Held, bare}
 use Rattle.protocol.proofs.Outs.{out_to}
 use Rattle.protocol.proofs.Queues.{Has}
-use Rattle.protocol.specs.Net.{after}
 
 -- a message that a node puts off
 abbrev pub Later : ℕ → Message → Held → Type 0

@@ -9,9 +9,8 @@ use Rattle.node.specs.declared.state.Status.TheVariants.{Find}
 use Rattle.node.specs.declared.state.Mark.TheVariants.{Basic, Branch}
 use Rattle.node.specs.Rules.{is_finding, lighter}
 use Rattle.protocol.proofs.Chain.{bool, chain_low}
-use Rattle.protocol.proofs.Ghost.{undecided, decided, View, rises}
+use Rattle.protocol.proofs.Ghost.{undecided, decided, View}
 use Rattle.protocol.proofs.Mode.{tells, busy, Child, Mode, free, offered, offers, crossing, took, taken, merged, ahead, behind, core, told, above, below, Sane}
-use Rattle.protocol.specs.Net.{still}
 use Rattle.message.specs.declared.messages.Phase.TheVariants as phase
 
 pub record Absorbing (i j z : ℕ) (A B : View) : Type 0 where

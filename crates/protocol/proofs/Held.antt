@@ -10,7 +10,6 @@ use Rattle.node.specs.declared.state.Mark.{Mark}
 use Rattle.node.specs.declared.state.Mark.TheVariants.{Basic, Rejected}
 use Rattle.node.specs.Rules.{is_basic, is_branch, status_of, is_finding, lighter}
 use Rattle.graph.specs.Graph.{Graph}
-use Rattle.protocol.specs.Net.{over}
 
 -- a message over the edge to a neighbour
 

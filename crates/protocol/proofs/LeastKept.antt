@@ -6,7 +6,7 @@ use Rattle.message.specs.declared.messages.Outgoing.{Outgoing}
 use Rattle.message.specs.declared.messages.Outgoing.TheVariants.{Nothing, Weight}
 use Rattle.node.specs.declared.state.Status.TheVariants.{Find}
 use Rattle.node.specs.declared.state.Mark.TheVariants.{Basic}
-use Rattle.node.specs.Rules.{lighter, lightest}
+use Rattle.node.specs.Rules.{lighter}
 use Rattle.graph.specs.Graph.{Graph, Edge}
 use Rattle.protocol.proofs.All.{Done, lighter_trans}
 use Rattle.protocol.proofs.Chain.{bool}

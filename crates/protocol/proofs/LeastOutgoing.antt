@@ -7,7 +7,7 @@ use Rattle.message.specs.declared.messages.Outgoing.TheVariants.{Nothing, Weight
 use Rattle.node.specs.declared.state.Status.TheVariants.{Find}
 use Rattle.node.specs.declared.state.Mark.{Mark}
 use Rattle.node.specs.declared.state.Mark.TheVariants.{Basic, Branch, Rejected}
-use Rattle.node.specs.Rules.{lighter, lightest}
+use Rattle.node.specs.Rules.{lighter}
 use Rattle.graph.specs.Graph.{Graph, Edge}
 use Rattle.protocol.proofs.Chain.{bool}
 use Rattle.protocol.proofs.Ghost.{Turn, Least, undecided, decided, View, idle, starts, absorb, merge, begin, report, decide, change, end, moves, enters, fragments, inside, follow, acted}

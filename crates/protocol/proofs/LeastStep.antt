@@ -5,7 +5,7 @@ use Rattle.message.specs.declared.messages.Message.{Message}
 use Rattle.message.specs.declared.messages.Outgoing.{Outgoing}
 use Rattle.message.specs.declared.messages.Outgoing.TheVariants.{Nothing, Weight}
 use Rattle.node.specs.declared.state.Status.TheVariants.{Sleeping, Find}
-use Rattle.node.specs.Rules.{lighter, lightest}
+use Rattle.node.specs.Rules.{lighter}
 use Rattle.graph.specs.Graph.{Graph, Edge, Weights}
 use Rattle.protocol.proofs.All.{Done, all_done}
 use Rattle.protocol.proofs.Base.{Good}

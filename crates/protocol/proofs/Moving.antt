@@ -5,9 +5,9 @@ use Rattle.message.specs.declared.messages.Message.{Message}
 use Rattle.node.specs.declared.state.Status.{Status}
 use Rattle.node.specs.declared.state.Status.TheVariants.{Sleeping}
 use Rattle.node.specs.Rules.{is_sleeping}
-use Rattle.graph.specs.Graph.{Graph, Edge, Weights}
-use Rattle.protocol.specs.Net.{Net, Near, Placed, neighbour, Reach}
-use Rattle.protocol.specs.Theorems.{Closed, Waiting, NeverStuck}
+use Rattle.graph.specs.Graph.{Edge}
+use Rattle.protocol.specs.Net.{neighbour}
+use Rattle.protocol.specs.Theorems.{NeverStuck}
 use Rattle.protocol.proofs.Queues.{Has}
 use Rattle.protocol.proofs.Frame.{Later}
 use Rattle.protocol.proofs.Deferred.{later}

@@ -3,7 +3,6 @@ use Rattle.std.proofs.Common.{◌≡◌, ℕ, zero, suc, cond, not, ◌&&◌, eq
 use Rattle.message.specs.declared.messages.Message.{Message}
 use Rattle.node.specs.Rules.{is_branch}
 use Rattle.protocol.proofs.Held.{Send, Held, onward}
-use Rattle.protocol.specs.Net.{over}
 
 -- what a list of sends puts on the edge to k
 abbrev pub out_to : ℕ → List Send → List Message

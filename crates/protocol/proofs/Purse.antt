@@ -14,7 +14,6 @@ use Rattle.protocol.proofs.Ghost.{Own, View, turn, mine}
 use Rattle.protocol.proofs.Held.{Send, Held, is_none, rejecting, testing_now, hearing, bettering, joining, onward, send_to}
 use Rattle.protocol.proofs.Outs.{out_to, out_to-++, out_to_onward}
 use Rattle.protocol.proofs.Sum.{sum, sum_zero, at, sum_one}
-use Rattle.protocol.specs.Net.{over}
 use Rattle.message.specs.declared.messages.Phase.TheVariants as phase
 
 -- spent: what was charged at levels that are over; accepted: an accept was taken at this level; waste: how many of its questions over an edge that had become a branch were refused

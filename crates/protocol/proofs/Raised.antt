@@ -9,7 +9,6 @@ use Rattle.node.specs.declared.state.Status.TheVariants.{Sleeping, Find, Found}
 use Rattle.graph.specs.Graph.{Graph, Edge, Weights}
 use Rattle.protocol.proofs.Asleep.{asleep, Alones, view_off}
 use Rattle.protocol.proofs.Base.{Good}
-use Rattle.protocol.proofs.Books.{answers}
 use Rattle.protocol.proofs.Deed.{In, woke, got, Deed, Alone, WokeTo, Absorbs, Merges, Begins, Searches-ask, Searches-report, Searches-wait, Accepts, Rejects, Crosses-ask, Crosses-report, Crosses-wait, Accepted-report, Accepted-wait, Rejected-ask, Rejected-report, Rejected-wait, Hears-report, Hears-wait, Decides-passes, Decides-joins, Halts, Rests, Changed-passes, Changed-joins}
 use Rattle.protocol.proofs.Edges.{Rest, Edges, first, next}
 use Rattle.protocol.proofs.Frame.{start, Lifted, Act, Event, act, off}
@@ -19,7 +18,6 @@ use Rattle.protocol.proofs.LeastOutgoing.{Heavier}
 use Rattle.protocol.proofs.LeastStep.{Trust}
 use Rattle.protocol.proofs.Mode.{Sane}
 use Rattle.protocol.proofs.Names.{Names, comes_of}
-use Rattle.protocol.proofs.Talk.{asks}
 use Rattle.protocol.proofs.Views.{view_else, view_acted}
 
 -- it has a parent if and only if its level is at least 1; and once it is awake and has an edge, its edge up is one

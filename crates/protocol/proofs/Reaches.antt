@@ -6,7 +6,6 @@ use Rattle.protocol.proofs.Edges.{first, next}
 use Rattle.protocol.proofs.Events.{lift, Shaped, lift_start, event}
 use Rattle.protocol.proofs.Ghost.{Ghost}
 use Rattle.protocol.proofs.Invariant.{Inv, inv_start, inv_step}
-use Rattle.protocol.proofs.LeastStep.{low}
 use Rattle.protocol.proofs.Levels.{fragment_small}
 use Rattle.protocol.proofs.Raised.{low_of}
 use Rattle.protocol.proofs.Right.{right}

@@ -4,7 +4,6 @@ use Rattle.std.proofs.lemmas.Bool.Decides.{eqb_tells}
 use Rattle.node.specs.declared.state.Node.{Node}
 use Rattle.node.specs.Rules.{is_branch, has_edge, goes_on}
 use Rattle.graph.specs.Graph.{Graph}
-use Rattle.protocol.proofs.Deed.{one}
 use Rattle.protocol.proofs.Held.{Held, branches_but}
 use Rattle.protocol.proofs.Lift.{held_of, Once, once_rest, once_head}
 use Rattle.protocol.proofs.Shape.{few, Shape, mark_none, there, same_place, marked}

@@ -12,7 +12,6 @@ use Rattle.protocol.proofs.Control.{control1, control}
 use Rattle.protocol.proofs.Deed.{In, woke, got, Deed, Absorbs, Merges, Begins, Searches-ask, Searches-report, Searches-wait, Accepts, Rejects, Crosses-ask, Crosses-report, Crosses-wait, Accepted-report, Accepted-wait, Rejected-ask, Rejected-report, Rejected-wait, Hears-report, Hears-wait, Decides-passes, Decides-joins, Halts, Rests, Changed-passes, Changed-joins}
 use Rattle.protocol.proofs.Deeds.{Knows, Suits}
 use Rattle.protocol.proofs.Edges.{first, shorter, next}
-use Rattle.protocol.proofs.Finished.{settles}
 use Rattle.protocol.proofs.Frame.{start, Lifted, Act, Event, act, off}
 use Rattle.protocol.proofs.Ghost.{undecided, decided, Fragment, Ghost, View, view, merge, turn, follow, acted, stepped}
 use Rattle.protocol.proofs.Heads.{head_absorb, head_merge, head_turn}

@@ -13,7 +13,6 @@ use Rattle.protocol.proofs.Chain.{bool, down_low, down_state}
 use Rattle.protocol.proofs.Ghost.{View, idle, starts, report, follow, acted}
 use Rattle.protocol.proofs.Held.{Held}
 use Rattle.protocol.proofs.Mode.{tells, busy, calls, Old, Down, Child, Mode, free, offered, offers, crossing, took, taken, merged, ahead, behind, core, told, above, below, Sane}
-use Rattle.protocol.proofs.Turn.{alike}
 use Rattle.message.specs.declared.messages.Phase.TheVariants as phase
 
 abbrev pub tuned : Status → (ℕ → Mark) → ℕ → (Option ℕ) → Outgoing → (Option ℕ) → Held → Held

@@ -13,7 +13,7 @@ use Rattle.protocol.proofs.Events.{Shaped}
 use Rattle.protocol.proofs.Shape.{Shape}
 use Rattle.node.proofs.Took.{came, woke as wokeOf, Woke, awake, alone, connects}
 use Rattle.node.proofs.After.{after as changed}
-use Rattle.node.specs.Rules.{fresh, takes}
+use Rattle.node.specs.Rules.{fresh}
 use Rattle.protocol.specs.Net.{Net, Near, Placed, Step, waking, taking, deferring, neighbour, after, queueing, start as netStart}
 use Rattle.std.proofs.lemmas.List.{length-map, get_or-map, get_or_append_left}
 

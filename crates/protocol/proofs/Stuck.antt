@@ -25,7 +25,7 @@ use Rattle.protocol.proofs.Frame.{Later, Lifted}
 use Rattle.protocol.proofs.Ghost.{Least, undecided, decided, Ghost, view}
 use Rattle.protocol.proofs.Inside.{Inside, itself, via, Insides}
 use Rattle.protocol.proofs.LeastOutgoing.{Outward}
-use Rattle.protocol.proofs.Mode.{busy, Connecting, Told, Core, above, Sane}
+use Rattle.protocol.proofs.Mode.{Connecting, Told, Core, Sane}
 use Rattle.protocol.proofs.Pending.{child_even, even, core_of, connects, unanswered, told_all, awaited_so, child_seeks}
 use Rattle.protocol.proofs.Questions.{Talks}
 use Rattle.protocol.proofs.Queues.{Has}

@@ -8,7 +8,7 @@ use Rattle.node.specs.declared.state.Status.{Status}
 use Rattle.node.specs.declared.state.Status.TheVariants.{Find}
 use Rattle.node.specs.declared.state.Mark.{Mark}
 use Rattle.node.specs.declared.state.Mark.TheVariants.{Basic, Branch, Rejected}
-use Rattle.protocol.proofs.Ghost.{undecided, decided, View, absorb, merge, mine, follow}
+use Rattle.protocol.proofs.Ghost.{undecided, decided, View, absorb, merge, follow}
 use Rattle.protocol.proofs.Mode.{tells, Connecting, Mode, free, offered, offers, crossing, took, taken, merged, ahead, behind, core, told, above, below, Sane}
 
 -- What is under way of questions and their answers over an edge.

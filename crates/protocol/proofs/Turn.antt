@@ -13,7 +13,6 @@ use Rattle.protocol.proofs.Chain.{bool, chain_low, down_low, chain_down}
 use Rattle.protocol.proofs.Ghost.{decided, View, decide, change, end, follow, acted}
 use Rattle.protocol.proofs.Held.{Held, marking, halting}
 use Rattle.protocol.proofs.Mode.{tells, busy, Down, Told, Mode, free, offered, offers, crossing, took, taken, merged, ahead, behind, core, told, above, below, Sane}
-use Rattle.protocol.specs.Net.{still}
 
 -- of A's best edge, which leads to k: B is node k
 pub record Best (x k w : ℕ) (A B : View) : Type 0 where

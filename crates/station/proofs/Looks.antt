@@ -1,10 +1,10 @@
 -- One look, some looks, a round: what each is by the one before.
-use Rattle.std.proofs.Common.{◌≡◌, ℕ, zero, suc, ◌+◌, ◌<◌, ◌≤◌, List, [], ◌∷◌, map, length, get_or, Some, None, vec_items, Option, sym, refl, ap, ◌∙◌, add-one}
+use Rattle.std.proofs.Common.{◌≡◌, ℕ, ◌+◌, ◌<◌, ◌≤◌, length, get_or, Some, None, vec_items, sym, refl, ap, ◌∙◌, add-one}
 use Rattle.message.specs.declared.messages.Message.{Message}
 use Rattle.node.specs.declared.state.Taking.{Taking}
 use Rattle.node.specs.Rules.{takes}
 use Rattle.link.specs.declared.ends.Link.{Link}
-use Rattle.link.specs.Ends.{End, end_of, head_of}
+use Rattle.link.specs.Ends.{end_of, head_of}
 use Rattle.station.specs.declared.work.Work.{Work}
 use Rattle.station.specs.State.{link_at}
 use Rattle.station.specs.Work.{Progress, progress_of, look_by, look, looks, waiting_at, round}

@@ -1,16 +1,15 @@
 -- Each round that takes something leaves fewer messages, so that rounds come to an end, however many are allowed.
-use Rattle.std.proofs.Common.{◌≡◌, ℕ, zero, suc, ◌+◌, ◌<◌, ◌≤◌, Bool, true, false, ◌⊎◌, List, [], ◌∷◌, ◌++◌, length, get_or, set, Some, None, sum_by, Option, sym, refl, ap, ◌∙◌, subst, inl, inr, arith}
+use Rattle.std.proofs.Common.{◌≡◌, ℕ, zero, suc, ◌<◌, ◌≤◌, Bool, true, false, ◌⊎◌, List, [], ◌∷◌, length, set, Some, None, sum_by, Option, sym, refl, ap, ◌∙◌, inl, inr, arith}
 use native.Mathlib.Decide.{dec_lt}
 use Rattle.std.proofs.lemmas.List.{length-append, set_past}
 use Rattle.std.proofs.lemmas.List.Sums.{sum_by-set}
 use Rattle.message.specs.declared.messages.Message.{Message}
-use Rattle.node.specs.declared.state.Turn.{Turn}
 use Rattle.node.specs.declared.state.Taking.{Taking}
 use Rattle.node.specs.declared.state.Taking.TheVariants.{Taken, Deferred, Refused}
 use Rattle.node.specs.Rules.{Sends, takes}
 use Rattle.node.specs.Laws.{sent_over}
 use Rattle.link.specs.Ends.{End, head_of, rest, turned, giving, taking, deferring}
-use Rattle.station.specs.State.{State, no_link, link_in, link_at, with_link, gave_at, gave_below, acted}
+use Rattle.station.specs.State.{no_link, link_in, link_at, gave_at, gave_below}
 use Rattle.station.specs.Work.{Progress, look_by, look_at, look, looks, waiting_at, round, afresh, lap, rounds, waiting, works}
 
 abbrev inboxed : End → ℕ

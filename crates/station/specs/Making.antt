@@ -1,5 +1,5 @@
 -- A station as it is made, and which neighbours it can have.
-use Rattle.std.specs.Prelude.{◌≡◌, ℕ, zero, suc, Bool, true, false, cond, ◌&&◌, ◌||◌, ◌⊎◌, List, map, length, take, Some, None, Ok, Err, Option, Result, ◌==◌, nat_le, nat_lt, slice_index_or}
+use Rattle.std.specs.Prelude.{◌≡◌, ℕ, zero, suc, Bool, cond, ◌||◌, ◌⊎◌, List, map, length, take, Some, None, Ok, Err, Option, Result, ◌==◌, nat_le, nat_lt, slice_index_or}
 use Rattle.graph.specs.declared.edge.Neighbour.{Neighbour}
 use Rattle.graph.specs.declared.fault.Fault.{Fault}
 use Rattle.graph.specs.declared.fault.Fault.TheVariants.{NodeOutOfRange, OwnNode, WeightOutOfRange, EdgeTwice, WeightTwice, TooManyEdges, NoMemory}

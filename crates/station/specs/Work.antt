@@ -5,7 +5,7 @@ use Rattle.message.specs.declared.messages.Message.{Message}
 use Rattle.node.specs.declared.state.Taking.{Taking}
 use Rattle.node.specs.declared.state.Taking.TheVariants.{Taken, Deferred, Refused}
 use Rattle.node.specs.Rules.{takes}
-use Rattle.link.specs.Ends.{End, head_of, taking, deferring}
+use Rattle.link.specs.Ends.{head_of, taking, deferring}
 use Rattle.station.specs.State.{State, state_of, link_at, with_link, acted}
 use Rattle.station.specs.declared.work.Work.{Work}
 

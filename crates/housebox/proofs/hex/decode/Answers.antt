@@ -1,5 +1,5 @@
 -- Each turn takes two digits.
-use Rattle.std.proofs.Common.{◌≡◌, ◌+◌, ◌*◌, ◌<◌, ◌≤◌, [], ◌∷◌, ◌++◌, length, drop, vec_items, sym, ap, ◌∙◌, arith}
+use Rattle.std.proofs.Common.{◌≡◌, ◌+◌, ◌*◌, ◌<◌, ◌≤◌, length, drop, vec_items, ap, ◌∙◌, arith}
 use Rattle.std.specs.Option.{option_map}
 use Rattle.housebox.specs.Hex.{bytes_of}
 use Rattle.housebox.proofs.Digits.{behind, decoded_more, decoded_none, decoded_all, decoded_odd, decoded_start}

@@ -1,5 +1,5 @@
 -- The line at the place, if there is one.
-use Rattle.std.proofs.Common.{◌≡◌, ◌<◌, ◌≤◌, ◌++◌, length, vec_items, codes, sym, ap, ◌∙◌, arith}
+use Rattle.std.proofs.Common.{◌<◌, ◌≤◌, ◌++◌, length, vec_items, codes, sym, ap, ◌∙◌, arith}
 use Rattle.housebox.specs.Report.{line_of}
 use Rattle.housebox.proofs.Printed.{lamp_read, lamp_past}
 use Rattle.housebox.proofs.report.put_lamp.Goals as goal

@@ -1,5 +1,5 @@
 -- One byte more adds itself; at the end all bytes are passed.
-use Rattle.std.proofs.Common.{◌≡◌, ◌%◌, ◌<◌, length, sum, ap, ◌∙◌, arith}
+use Rattle.std.proofs.Common.{◌%◌, ◌<◌, length, sum, ap, ◌∙◌, arith}
 use Rattle.std.proofs.lemmas.List.Sums.{sum_by_more}
 use Rattle.std.proofs.lemmas.List.{take_all}
 use Rattle.message.proofs.packets.checksum.Goals as goal

@@ -1,5 +1,5 @@
 -- One weight more, and at the end all of them.
-use Rattle.std.proofs.Common.{◌≡◌, get_or, refl}
+use Rattle.std.proofs.Common.{get_or, refl}
 use Rattle.node.proofs.Places.{placed, all_placed}
 use Rattle.node.proofs.state.placed.Goals as goal
 

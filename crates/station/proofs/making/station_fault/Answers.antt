@@ -1,8 +1,8 @@
 -- Each turn passes over a neighbour without a fault.
-use Rattle.std.proofs.Common.{◌≡◌, ℕ, zero, suc, ◌+◌, ◌-◌, ◌<◌, ◌≤◌, Bool, true, false, cond, ltb, leb, List, length, get_or, take, is_some, Some, None, Option, sym, refl, ap, ◌∙◌, add-one, arith}
+use Rattle.std.proofs.Common.{◌≡◌, ℕ, zero, suc, ◌+◌, ◌-◌, ◌<◌, ◌≤◌, true, false, List, length, get_or, take, is_some, Some, None, Option, sym, refl, ◌∙◌, add-one, arith}
 use Rattle.graph.specs.declared.edge.Neighbour.{Neighbour}
 use Rattle.graph.specs.declared.fault.Fault.{Fault}
-use Rattle.station.specs.Making.{nobody, or_else, neighbour_fault, fault_below, station_fault}
+use Rattle.station.specs.Making.{nobody, neighbour_fault, fault_below, station_fault}
 use Rattle.station.proofs.making.station_fault.Goals as goal
 
 fault_more : (i : ℕ) (ns : List Neighbour) (k : ℕ) → fault_below i ns k ≡ None → fault_below i ns (k + 1) ≡ neighbour_fault i (take k ns) (get_or ns k nobody)

@@ -1,6 +1,6 @@
 -- Each turn passes over another weight.
-use Rattle.std.proofs.Common.{◌≡◌, ◌<◌, ◌≤◌, true, false, ltb, length, sym, arith}
-use Rattle.station.specs.Making.{other_weights, nobody}
+use Rattle.std.proofs.Common.{arith}
+use Rattle.station.specs.Making.{nobody}
 use Rattle.station.proofs.Passed.{passed_on, among_here}
 use Rattle.station.proofs.making.weighs_among.Goals as goal
 

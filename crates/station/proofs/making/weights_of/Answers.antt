@@ -1,5 +1,5 @@
 -- Each turn adds one weight more.
-use Rattle.std.proofs.Common.{map, get_or, vec_items, sym, refl, ◌∙◌}
+use Rattle.std.proofs.Common.{get_or, vec_items, sym, refl, ◌∙◌}
 use Rattle.std.proofs.lemmas.List.{get_or_default, map-id}
 use Rattle.station.specs.Making.{nobody}
 use Rattle.station.proofs.Links.{made_more, made_all}

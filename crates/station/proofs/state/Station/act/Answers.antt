@@ -1,5 +1,5 @@
 -- Each turn gives what goes over one place more.
-use Rattle.std.proofs.Common.{◌≡◌, get_or, None, sym, refl, ap, ◌∙◌, arith}
+use Rattle.std.proofs.Common.{get_or, None, sym, refl, ap, ◌∙◌}
 use Rattle.station.specs.State.{state_of, give_at}
 use Rattle.station.proofs.Given.{gave_none, gave_more_lem}
 use Rattle.station.proofs.state.Station.act.Goals as goal

@@ -1,8 +1,8 @@
 -- The copy's link takes the packet and the inboxes are worked off, or nothing changes.
-use Rattle.std.proofs.Common.{◌≡◌, ◌<◌, [], ◌∷◌, vec_items, vec_len, sym, ap, ◌∙◌, arith}
+use Rattle.std.proofs.Common.{◌≡◌, ◌<◌, [], ◌∷◌, vec_items, vec_len, ap, ◌∙◌, arith}
 use Rattle.std.specs.Vec.{with_item}
 use Rattle.link.specs.Ends.{end_of, received, why_not_taken}
-use Rattle.station.specs.State.{state_of, link_at, with_link}
+use Rattle.station.specs.State.{state_of, link_at}
 use Rattle.station.specs.Work.{progress_of}
 use Rattle.station.specs.Events.{answer_to}
 use Rattle.station.proofs.Happened.{same_long, state_changed, read_back, link_of, late_did, next_did}

@@ -1,5 +1,5 @@
 -- Each turn copies one link more.
-use Rattle.std.proofs.Common.{◌≡◌, ◌≤◌, map, length, vec_items, sym, ap}
+use Rattle.std.proofs.Common.{◌≤◌, length, vec_items, sym, ap}
 use Rattle.link.specs.Ends.{end_of}
 use Rattle.station.proofs.Links.{made_more, made_all}
 use Rattle.station.proofs.state.Station.copy.Goals as goal

@@ -1,5 +1,5 @@
 -- A link is given the message, if there is one at the place.
-use Rattle.std.proofs.Common.{◌≡◌, ◌<◌, ◌≤◌, map, length, vec_items, sym, ap, ◌∙◌, arith}
+use Rattle.std.proofs.Common.{map, vec_items, sym, ap, ◌∙◌, arith}
 use Rattle.link.specs.Ends.{end_of, giving}
 use Rattle.station.specs.State.{state_of, link_in, give_at}
 use Rattle.station.proofs.Links.{link_changed, link_unchanged}

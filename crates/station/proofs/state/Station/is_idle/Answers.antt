@@ -1,5 +1,5 @@
 -- Where there is no link there is nothing to hand over.
-use Rattle.std.proofs.Common.{◌≡◌, ◌<◌, ◌≤◌, true, leb, length, vec_items, sym, refl, ap, ◌∙◌, arith}
+use Rattle.std.proofs.Common.{◌≡◌, true, leb, vec_items, sym, ap, ◌∙◌, arith}
 use Rattle.link.specs.Ends.{is_idle}
 use Rattle.station.proofs.Links.{link_read, link_past}
 use Rattle.station.proofs.state.Station.is_idle.Goals as goal

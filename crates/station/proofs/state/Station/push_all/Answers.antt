@@ -1,8 +1,8 @@
 -- Each turn sends the oldest message of one link more.
-use Rattle.std.proofs.Common.{◌≡◌, ◌+◌, ◌<◌, true, List, ◌++◌, map, length, vec_items, sym, refl, ap, ◌∙◌, subst, arith}
+use Rattle.std.proofs.Common.{◌≡◌, ◌++◌, map, length, vec_items, refl, ap, ◌∙◌, arith}
 use Rattle.std.proofs.lemmas.List.{length-map}
 use Rattle.link.specs.Ends.{end_of}
-use Rattle.station.specs.Events.{firsts, each, oldest_to}
+use Rattle.station.specs.Events.{firsts, each}
 use Rattle.station.proofs.Links.{link_read_as}
 use Rattle.station.proofs.Firsts.{firsts_start, firsts_sent}
 use Rattle.station.proofs.state.Station.push_all.Goals as goal

@@ -1,8 +1,8 @@
 -- Each turn sends the first message of one link more, if it had none before.
-use Rattle.std.proofs.Common.{◌≡◌, ◌+◌, ◌<◌, true, false, List, ◌++◌, map, length, vec_items, sym, refl, ap, ◌∙◌, subst, arith}
+use Rattle.std.proofs.Common.{◌≡◌, ◌++◌, map, length, vec_items, sym, ap, ◌∙◌, arith}
 use Rattle.std.proofs.lemmas.List.{length-map}
 use Rattle.link.specs.Ends.{end_of}
-use Rattle.station.specs.Events.{firsts, idle_in, oldest_to}
+use Rattle.station.specs.Events.{firsts, idle_in}
 use Rattle.station.proofs.Links.{link_read_as}
 use Rattle.station.proofs.Firsts.{firsts_start, firsts_sent, firsts_passed}
 use Rattle.station.proofs.state.Station.push_begun.Goals as goal

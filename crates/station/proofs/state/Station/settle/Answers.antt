@@ -1,5 +1,5 @@
 -- The copy's link is settled, or nothing changes.
-use Rattle.std.proofs.Common.{◌≡◌, ◌<◌, ◌++◌, IfOk, vec_items, vec_len, sym, ap, ◌∙◌, subst, arith}
+use Rattle.std.proofs.Common.{◌≡◌, ◌<◌, ◌++◌, IfOk, vec_items, vec_len, ap, ◌∙◌, subst, arith}
 use Rattle.std.specs.Vec.{with_item}
 use Rattle.link.specs.Ends.{end_of, settled, why_not_settled}
 use Rattle.station.specs.State.{state_of, link_at}

@@ -1,7 +1,7 @@
 -- Each way is one of the three things that come of a head, or there is none.
-use Rattle.std.proofs.Common.{◌≡◌, ◌<◌, ◌≤◌, true, length, vec_items, sym, refl, ap, ◌∙◌, arith}
+use Rattle.std.proofs.Common.{◌<◌, true, length, vec_items, sym, ap, ◌∙◌, arith}
 use Rattle.node.specs.declared.state.Taking.TheVariants.{Taken, Deferred, Refused}
-use Rattle.link.specs.Ends.{end_of, taking, deferring}
+use Rattle.link.specs.Ends.{taking, deferring}
 use Rattle.station.specs.State.{state_of, link_at, with_link, acted}
 use Rattle.station.proofs.Links.{link_changed}
 use Rattle.station.proofs.Looks.{seen_past, seen_nothing, seen_head}

@@ -1,5 +1,5 @@
 -- Each turn is one look more.
-use Rattle.std.proofs.Common.{◌≡◌, ◌<◌, ◌≤◌, length, vec_items, sym, refl, ap, ◌∙◌, arith}
+use Rattle.std.proofs.Common.{◌≡◌, sym, ap, ◌∙◌, arith}
 use Rattle.station.specs.Work.{progress_of, look, looks, waiting_at}
 use Rattle.station.proofs.Looks.{looks_none, looks_more, waits_past, waits_here}
 use Rattle.station.proofs.work.Work.look_all.Goals as goal

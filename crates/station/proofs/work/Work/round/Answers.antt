@@ -1,5 +1,5 @@
 -- Each turn looks at one place more.
-use Rattle.std.proofs.Common.{◌≡◌, length, vec_items, sym, refl, ap, ◌∙◌, arith}
+use Rattle.std.proofs.Common.{◌≡◌, length, vec_items, sym, ap, ◌∙◌, arith}
 use Rattle.std.proofs.lemmas.List.{length-map}
 use Rattle.link.specs.Ends.{end_of}
 use Rattle.station.specs.Work.{progress_of, afresh, looks, waiting_at, round}

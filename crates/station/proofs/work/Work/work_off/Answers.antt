@@ -1,5 +1,5 @@
 -- A round that took something leaves fewer messages, and the same end; one that took nothing is the end.
-use Rattle.std.proofs.Common.{◌≡◌, ◌<◌, true, false, sym, refl, ap, ◌∙◌, subst}
+use Rattle.std.proofs.Common.{◌≡◌, ◌<◌, true, false, sym, ap, ◌∙◌, subst}
 use Rattle.station.specs.Work.{Progress, progress_of, lap, waiting, works}
 use Rattle.station.proofs.Rounds.{lap_fewer, works_on, works_last}
 use Rattle.station.proofs.work.Work.work_off.Goals as goal
