@@ -99,7 +99,4 @@ pub weights : SoundWeights
 weights n es s = sound_weights n es s.valid s.separate
 
 pub always_sound : AlwaysSound
-always_sound l = (
-  record { some = l.some; few = l.few; valid = l.valid; separate = l.separate; degrees = l.degrees },
-  sound_weights l.nodes (edges_of l) l.valid l.separate,
-)
+always_sound l = (l.sound, sound_weights l.nodes (edges_of l) l.sound.valid l.sound.separate)

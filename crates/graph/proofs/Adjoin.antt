@@ -1,108 +1,65 @@
 -- The neighbours that stand beside a list of edges, after one edge more.
-use Rattle.std.proofs.Common.{◌≡◌, ℕ, ◌+◌, ◌<◌, true, List, [], ◌∷◌, ◌++◌, length, get_or, take, replicate, sym, refl, ap, ◌∙◌, inl, inr, arith, length-append}
-use Rattle.std.proofs.lemmas.List.{append-nil, get_or-replicate}
+use Rattle.std.proofs.Common.{◌≡◌, ℕ, List, [], ◌∷◌, ◌++◌, length, get_or, replicate, sym, refl, ap, ◌∙◌, inl, inr, arith}
+use Rattle.std.specs.List.{AllZip}
+use Rattle.std.proofs.lemmas.List.{append-nil, length-replicate, get_or-replicate, nil_from_length}
+use Rattle.std.proofs.lemmas.List.Elements.{length_all_zip}
 use Rattle.std.proofs.lemmas.Bool.{cases_eq, eq-eqb, ne_eqb}
-use Rattle.graph.specs.Edges.{seen_from, neighbours_of, alone, alike, all_apart, AllValid, FewEach, Counted, Held}
+use Rattle.arrayvec.specs.ArrayVec.{ArrayVec}
+use Rattle.graph.specs.Edges.{seen_from, neighbours_of, alone, Beside}
 use Rattle.graph.specs.Build.{Grows}
-use Rattle.graph.proofs.Edges.{valid_each}
-use Rattle.graph.proofs.Push.{neighbours_push, same_from_alike, alike_from_same, Faultless, valid_push, separate_push, degrees_push}
+use Rattle.graph.proofs.Push.{neighbours_push}
 use Rattle.graph.specs.declared.edge.WeightedEdge.{WeightedEdge}
 use Rattle.graph.specs.declared.edge.Neighbour.{Neighbour}
-use Rattle.graph.specs.declared.edge.Adjacent.{Adjacent}
 
-abbrev used : Adjacent → List Neighbour
-used p = take p.degree p.to
+module _ (e : WeightedEdge) (vs ws us : List (ArrayVec Neighbour)) (ne : e.a ≡ e.b → ⊥) (f : Grows vs ws e.a (record { node = e.b; weight = e.weight }))
+    (g : Grows ws us e.b (record { node = e.a; weight = e.weight })) where
+  -- beside a node stands what stood there, and then what the edge is to it
+  Grown : ℕ → Type 0
+  Grown x = (get_or us x alone).items ≡ (get_or vs x alone).items ++ seen_from e x
 
--- what a node has in use is what it had and what the edge is to it
-record Grown (p q : Adjacent) (ns : List Neighbour) : Type 0 where
-  count : q.degree ≡ p.degree + length ns
-  items : used q ≡ used p ++ ns
+  at_a : Grown e.a
+  unfolding Grown
+  at_a = ap (λ (v : ArrayVec Neighbour). v.items) (g.others e.a ne) ∙ rw (eq-eqb e.a e.a refl) f.more
 
-module _ (e : WeightedEdge) (ps qs rs : List Adjacent) (ne : e.a ≡ e.b → ⊥) (f : Grows ps qs e.a (record { node = e.b; weight = e.weight }))
-    (g : Grows qs rs e.b (record { node = e.a; weight = e.weight })) where
-  seen_a : seen_from e e.a ≡ record { node = e.b; weight = e.weight } ∷ []
-  seen_a = rw (eq-eqb e.a e.a refl)
-
-  seen_b : seen_from e e.b ≡ record { node = e.a; weight = e.weight } ∷ []
-  seen_b = rw (ne_eqb e.a e.b ne, eq-eqb e.b e.b refl)
-
-  seen_none : (x : ℕ) → (x ≡ e.a → ⊥) → (x ≡ e.b → ⊥) → seen_from e x ≡ []
-  seen_none x p q = rw (ne_eqb e.a x (λ h. p (sym h)), ne_eqb e.b x (λ h. q (sym h)))
-
-  at_a : Grown (get_or ps e.a alone) (get_or rs e.a alone) (seen_from e e.a)
-  at_a =
-      let k = g.others e.a ne in
-      record {
-        count = ap (λ (p : Adjacent). p.degree) k ∙ rw seen_a f.more;
-        items = ap used k ∙ rw seen_a f.last;
-      }
-
-  at_b : Grown (get_or ps e.b alone) (get_or rs e.b alone) (seen_from e e.b)
+  at_b : Grown e.b
+  unfolding Grown
   at_b =
-      let k = f.others e.b (λ h. ne (sym h)) in
-      record {
-        count = rw seen_b (g.more ∙ ap (λ (p : Adjacent). p.degree + 1) k);
-        items = rw seen_b (g.last ∙ ap (λ (p : Adjacent). used p ++ record { node = e.a; weight = e.weight } ∷ []) k);
-      }
+      rw (ne_eqb e.a e.b ne, eq-eqb e.b e.b refl)
+      (g.more ∙ ap (λ (v : ArrayVec Neighbour). v.items ++ record { node = e.a; weight = e.weight } ∷ []) (f.others e.b (λ h. ne (sym h))))
 
-  at_other : (x : ℕ) → (x ≡ e.a → ⊥) → (x ≡ e.b → ⊥) → Grown (get_or ps x alone) (get_or rs x alone) (seen_from e x)
+  at_other : (x : ℕ) → (x ≡ e.a → ⊥) → (x ≡ e.b → ⊥) → Grown x
+  unfolding Grown
   at_other x p q =
-      let k = g.others x q ∙ f.others x p in
+      rw (ne_eqb e.a x (λ h. p (sym h)), ne_eqb e.b x (λ h. q (sym h)))
+      (ap (λ (v : ArrayVec Neighbour). v.items) (g.others x q ∙ f.others x p) ∙ sym (append-nil (get_or vs x alone).items))
+
+  at_each : (x : ℕ) → Grown x
+  at_each x = elim (cases_eq x e.a) [ inl p ↦ rw p at_a | inr p ↦ elim (cases_eq x e.b) [ inl q ↦ rw q at_b | inr q ↦ at_other x p q ] ]
+
+  -- The neighbours stand beside the list with the edge, too.
+  pub beside_push : (n : ℕ) (es ts : List WeightedEdge) → ts ≡ es ++ e ∷ [] → Beside n es vs → Beside n ts us
+  unfolding Grown
+  beside_push n es ts p h =
       record {
-        count = rw (seen_none x p q) (omega (arith, ap (λ (p : Adjacent). p.degree) k));
-        items = rw (seen_none x p q) (ap used k ∙ sym (append-nil (used (get_or ps x alone))));
+        places = omega (arith, h.places, f.long, g.long);
+        held = λ x l. rw (p, neighbours_push es e x) (at_each x ∙ ap (λ ns. ns ++ seen_from e x) (h.held x l));
       }
 
-  at_each : (x : ℕ) → Grown (get_or ps x alone) (get_or rs x alone) (seen_from e x)
-  at_each x =
-      elim (cases_eq x e.a) [
-        | inl p ↦ rw p at_a
-        | inr p ↦ elim (cases_eq x e.b) [ inl q ↦ rw q at_b | inr q ↦ at_other x p q ]
-      ]
+-- Beside no edges nobody stands.
+pub beside_none : (n : ℕ) (es : List WeightedEdge) (vs : List (ArrayVec Neighbour)) → es ≡ [] → vs ≡ replicate n alone → Beside n es vs
+unfolding neighbours_of
+beside_none n es vs p e =
+    rw (p, e) (record { places = length-replicate n alone; held = λ x h. ap (λ (v : ArrayVec Neighbour). v.items) (get_or-replicate n x alone alone h) })
 
-  pub counted_push : (n : ℕ) (es : List WeightedEdge) → Counted n es ps → Counted n (es ++ e ∷ []) rs
-  counted_push n es h x l = rw (neighbours_push es e x, length-append) ((at_each x).count ∙ ap (λ k. k + length (seen_from e x)) (h x l))
+-- a copy of an empty vector is empty
+abbrev filled : List Neighbour → ArrayVec Neighbour
+filled ns = record { items = ns }
 
-  pub held_push : (n : ℕ) (es : List WeightedEdge) → Held n es ps → Held n (es ++ e ∷ []) rs
-  held_push n es h x l =
-      alike_from_same (used (get_or rs x alone)) (neighbours_of (es ++ e ∷ []) x)
-      (rw (neighbours_push es e x) ((at_each x).items ∙ ap (λ ns. ns ++ seen_from e x) (same_from_alike (used (get_or ps x alone)) (neighbours_of es x) (h x l))))
+pub empty_alone : (v : ArrayVec Neighbour) → v.items ≡ [] → v ≡ alone
+empty_alone v e = ap (λ (ns : List Neighbour). filled ns) e
 
--- what a list of edges keeps, with the neighbours beside it
-pub record Kept (n : ℕ) (es : List WeightedEdge) (ps : List Adjacent) : Type 0 where
-  pub valid : AllValid n es
-  pub separate : all_apart es ≡ true
-  pub degrees : FewEach es
-  pub counted : Counted n es ps
-  pub held : Held n es ps
-
-kept_push : (n : ℕ) (es : List WeightedEdge) (e : WeightedEdge) (ps qs rs : List Adjacent) → Kept n es ps → Faultless n es e →
-    Grows ps qs e.a (record { node = e.b; weight = e.weight }) → Grows qs rs e.b (record { node = e.a; weight = e.weight }) → Kept n (es ++ e ∷ []) rs
-kept_push n es e ps qs rs k f g h =
-    record {
-      valid = valid_push n es e k.valid f.valid;
-      separate = separate_push n es e (valid_each n es k.valid) k.separate f.new f.other;
-      degrees = degrees_push n es e f k.degrees;
-      counted = counted_push e ps qs rs f.valid.2 g h n es k.counted;
-      held = held_push e ps qs rs f.valid.2 g h n es k.held;
-    }
-
--- All is kept when an edge without fault goes behind the others and both its ends have one neighbour more.
-pub kept_added : (n : ℕ) (es ts : List WeightedEdge) (e : WeightedEdge) (ps qs rs : List Adjacent) → Kept n es ps → Faultless n es e → ts ≡ es ++ e ∷ [] →
-    Grows ps qs e.a (record { node = e.b; weight = e.weight }) → Grows qs rs e.b (record { node = e.a; weight = e.weight }) → Kept n ts rs
-kept_added n es ts e ps qs rs k f p g h = rw p (kept_push n es e ps qs rs k f g h)
-
-pub kept_none : (n : ℕ) (es : List WeightedEdge) (ps : List Adjacent) → es ≡ [] → ((x : ℕ) → x < n → (get_or ps x alone).degree ≡ 0) → Kept n es ps
-unfolding all_apart neighbours_of alike
-kept_none n es ps p z =
-    rw p
-    (record {
-      valid = λ k h. absurd (omega arith);
-      separate = refl;
-      degrees = λ x. omega arith;
-      counted = z;
-      held = λ x h. rw (z x h) refl;
-    })
-
-pub unused : (ps : List Adjacent) (n : ℕ) (p : Adjacent) → ps ≡ replicate n p → p.degree ≡ 0 → (x : ℕ) → x < n → (get_or ps x alone).degree ≡ 0
-unused ps n p e z x h = rw e (ap (λ (q : Adjacent). q.degree) (get_or-replicate n x p alone h) ∙ z)
+pub copied_none : (R : Neighbour → Neighbour → Type 0) (v w : ArrayVec Neighbour) → v.items ≡ [] → AllZip R v.items w.items → w ≡ v
+copied_none R v w e c =
+    let l : length w.items ≡ 0 = omega (arith, length_all_zip R v.items w.items c, ap length e) in
+    let n : w.items ≡ v.items = nil_from_length w.items l ∙ sym e in
+    ap (λ (ns : List Neighbour). filled ns) n

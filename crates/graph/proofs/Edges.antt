@@ -1,10 +1,12 @@
 -- Lists of edges: their weights are those of a graph, neighbours are what the edges say, and what one more edge does.
-use Rattle.std.proofs.Common.{◌≡◌, ℕ, ◌+◌, ◌<◌, ◌≤◌, Bool, true, false, cond, ◌&&◌, eqb, ◌⊎◌, List, [], ◌∷◌, ◌++◌, length, get_or, refl, ◌∙◌, arith, length-append}
-use Rattle.std.specs.List.{AllByRecursion as All}
+use Rattle.std.proofs.Common.{◌≡◌, ℕ, ◌+◌, ◌<◌, ◌≤◌, Bool, true, false, cond, ◌&&◌, eqb, ◌⊎◌, List, [], ◌∷◌, ◌++◌, length, get_or, Some, Option, refl, ◌∙◌, arith, length-append}
+use Rattle.std.specs.List.{AllByRecursion as All, find}
+use Rattle.std.specs.Option.{option_map}
 use Rattle.std.proofs.lemmas.List.{get_or-append-add}
 use Rattle.std.proofs.ByRecursion.{All-append, All-from_get_or, All-get_or}
 use Rattle.graph.specs.Graph.{Weights}
 use Rattle.graph.specs.Edges.{between, weight_in, graph_from, seen_from, neighbours_of, no_edge, Valid, apart, apart_from, all_apart, AllValid}
+use Rattle.graph.specs.Lists.{some_weight}
 use Rattle.graph.specs.declared.edge.WeightedEdge.{WeightedEdge}
 use Rattle.graph.specs.declared.edge.Neighbour.{Neighbour}
 
@@ -32,6 +34,17 @@ weight_past e es a b h = rw h
 pub weight_none : (a b : ℕ) → weight_in [] a b ≡ 0
 unfolding weight_in
 weight_none a b = refl
+
+-- The first edge between two nodes has the weight, if there is one.
+pub weight_of_found : (n : ℕ) (es : List WeightedEdge) → All (Valid n) es → (a b : ℕ) →
+    option_map (λ (e : WeightedEdge). e.weight) (find (λ e. between e a b) es) ≡ some_weight (weight_in es a b)
+unfolding weight_in
+weight_of_found n [] v a b = refl
+weight_of_found n (e ∷ es) v a b = one e (find (λ e. between e a b) es) (weight_in es a b) v.0.3 (weight_of_found n es v.1 a b)
+  where
+    one : (e : WeightedEdge) (f : Option WeightedEdge) (w : ℕ) → 1 ≤ e.weight → option_map (λ (e : WeightedEdge). e.weight) f ≡ some_weight w →
+        option_map (λ (e : WeightedEdge). e.weight) (cond (between e a b) (Some e) f) ≡ some_weight (cond (between e a b) e.weight w)
+    one e f w l ih = grind (arith, ih)
 
 between_back : (e : WeightedEdge) (a b : ℕ) → between e a b ≡ between e b a
 between_back e a b = grind arith

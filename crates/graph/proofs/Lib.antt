@@ -6,10 +6,9 @@ pub mod Decide
 pub mod Span
 pub mod Edges
 pub mod Push
-mod Steps
 mod Adjoin
-mod Search
 mod Judge
+mod Search
 mod Digits
 mod Lines
 mod Readings

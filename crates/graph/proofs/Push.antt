@@ -1,13 +1,13 @@
 -- One more edge at the end of a list: what it does to neighbours, and when the list is sound with it.
-use Rattle.std.proofs.Common.{◌≡◌, ℕ, ◌+◌, ◌<◌, ◌≤◌, Bool, true, false, cond, ◌&&◌, ◌||◌, eqb, List, [], ◌∷◌, ◌++◌, length, None, sym, refl, ap, ◌∙◌, arith, length-append}
+use Rattle.std.proofs.Common.{◌≡◌, ℕ, ◌+◌, ◌<◌, ◌≤◌, Bool, true, false, cond, ◌&&◌, ◌||◌, eqb, List, [], ◌∷◌, ◌++◌, length, Some, None, Ok, Option, sym, refl, ap, ◌∙◌, arith, length-append}
 use Rattle.std.specs.List.{AllByRecursion as All}
 use Rattle.std.proofs.lemmas.List.{append_assoc, append-nil}
 use Rattle.std.proofs.ByRecursion.{All-push, All-get_or}
-use Rattle.graph.specs.Edges.{between, weight_in, has_weight, seen_from, neighbours_of, no_edge, Valid, apart, apart_from, all_apart, AllValid, FewEach, alike}
-use Rattle.graph.specs.Faults.{edge_fault}
+use Rattle.graph.specs.Edges.{between, weight_in, has_weight, seen_from, neighbours_of, no_edge, Valid, apart, apart_from, all_apart, AllValid, FewEach}
+use Rattle.graph.specs.Faults.{edge_fault, unless_fault}
 use Rattle.graph.proofs.Edges.{valid_each}
 use Rattle.graph.specs.declared.edge.WeightedEdge.{WeightedEdge}
-use Rattle.graph.specs.declared.edge.Neighbour.{Neighbour}
+use Rattle.graph.specs.declared.fault.Fault.{Fault}
 
 pub neighbours_append : (es ds : List WeightedEdge) (x : ℕ) → neighbours_of (es ++ ds) x ≡ neighbours_of es x ++ neighbours_of ds x
 unfolding neighbours_of
@@ -29,7 +29,7 @@ apart_from_push f (g ∷ gs) e = rw (apart_from_push f gs e) (grind arith)
 -- no edge of the list is between the ends of e, and none weighs the same: then e is apart from all
 pub separate_push : (n : ℕ) (es : List WeightedEdge) (e : WeightedEdge) → All (Valid n) es → all_apart es ≡ true → weight_in es e.a e.b ≡ 0 →
     has_weight es e.weight ≡ false → all_apart (es ++ e ∷ []) ≡ true
-unfolding all_apart weight_in has_weight apart_from
+unfolding all_apart weight_in apart_from
 separate_push n [] e v s w h = refl
 separate_push n (f ∷ fs) e v s w h =
     rw (apart_from_push f fs e) (more (apart_from f fs) (all_apart fs) (all_apart (fs ++ e ∷ [])) v.0.3 (separate_push n fs e v.1) s w h)
@@ -42,7 +42,7 @@ separate_push n (f ∷ fs) e v s w h =
 -- and only then
 pub separate_back : (es : List WeightedEdge) (e : WeightedEdge) → all_apart (es ++ e ∷ []) ≡ true →
     (all_apart es ≡ true) × (weight_in es e.a e.b ≡ 0) × (has_weight es e.weight ≡ false)
-unfolding all_apart weight_in has_weight apart_from
+unfolding all_apart weight_in apart_from
 separate_back [] e s = (refl, refl, refl)
 separate_back (f ∷ fs) e s =
     more (apart_from f fs) (all_apart fs) (all_apart (fs ++ e ∷ [])) (weight_in fs e.a e.b) (has_weight fs e.weight) (separate_back fs e)
@@ -51,36 +51,6 @@ separate_back (f ∷ fs) e s =
     more : (p q r : Bool) (w : ℕ) (t : Bool) → (r ≡ true → (q ≡ true) × (w ≡ 0) × (t ≡ false)) → ((p && apart f e) && r) ≡ true →
         ((p && q) ≡ true) × (cond (between f e.a e.b) f.weight w ≡ 0) × ((eqb f.weight e.weight || t) ≡ false)
     more p q r w t ih s = grind (arith, ih)
-
--- two lists of neighbours that are alike are the same, and the other way round
-abbrev neighbour : ℕ → ℕ → Neighbour
-neighbour n w = record { node = n; weight = w }
-
-same_neighbour : (p q : Neighbour) → p.node ≡ q.node → p.weight ≡ q.weight → p ≡ q
-same_neighbour p q e f = ap (λ n. neighbour n p.weight) e ∙ ap (λ w. neighbour q.node w) f
-
-pub same_from_alike : (ps qs : List Neighbour) → alike ps qs ≡ true → ps ≡ qs
-unfolding alike
-same_from_alike [] [] h = refl
-same_from_alike [] (q ∷ qs) h = absurd (grind arith)
-same_from_alike (p ∷ ps) [] h = absurd (grind arith)
-same_from_alike (p ∷ ps) (q ∷ qs) h = more (alike ps qs) (same_from_alike ps qs) h
-  where
-    more : (s : Bool) → (s ≡ true → ps ≡ qs) → ((eqb p.node q.node && eqb p.weight q.weight) && s) ≡ true → p ∷ ps ≡ q ∷ qs
-    more s ih h =
-        let a : p.node ≡ q.node = grind arith in
-        let b : p.weight ≡ q.weight = grind arith in
-        let c = same_neighbour p q a b in
-        let d : ps ≡ qs = grind (arith, ih) in
-        cc
-
-pub alike_self : (ps : List Neighbour) → alike ps ps ≡ true
-unfolding alike
-alike_self [] = refl
-alike_self (p ∷ ps) = rw (alike_self ps) (grind arith)
-
-pub alike_from_same : (ps qs : List Neighbour) → ps ≡ qs → alike ps qs ≡ true
-alike_from_same ps qs e = rw e (alike_self qs)
 
 -- what it means that an edge has no fault
 pub record Faultless (n : ℕ) (es : List WeightedEdge) (e : WeightedEdge) : Type 0 where
@@ -92,6 +62,11 @@ pub record Faultless (n : ℕ) (es : List WeightedEdge) (e : WeightedEdge) : Typ
 
 pub faultless : (n : ℕ) (es : List WeightedEdge) (e : WeightedEdge) → None ≡ edge_fault n es e → Faultless n es e
 faultless n es e h = record { valid = grind arith; new = grind arith; other = grind arith; room_a = grind arith; room_b = grind arith }
+
+-- an edge that is admitted has no fault
+pub admitted : (o : Option Fault) {u : Unit {0}} → Ok u ≡ unless_fault o → None ≡ o
+admitted None h = refl
+admitted (Some f) h = cc
 
 seen_few : (e : WeightedEdge) (x k : ℕ) (h : k ≤ 16) → ((e.a ≡ x) → k < 16) → ((e.b ≡ x) → k < 16) → k + length (seen_from e x) ≤ 16
 seen_few e x k h p q = grind arith

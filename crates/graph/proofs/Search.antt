@@ -1,7 +1,9 @@
 -- A search over lighter edges sees exactly what they join.
-use Rattle.std.proofs.Common.{◌≡◌, ℕ, zero, suc, ◌+◌, ◌<◌, ◌≤◌, Bool, true, false, cond, not, ◌⊎◌, List, [], ◌∷◌, length, get_or, set, replicate, Decides, sym, refl, ap, ◌∙◌, inl, inr, arith}
-use Rattle.std.proofs.lemmas.List.{length-set, get_or-set_same, get_or-set_other, get_or-replicate, get_or_past, length-replicate}
-use Rattle.std.specs.List.{AllByRecursion as All}
+use Rattle.std.proofs.Common.{◌≡◌, ℕ, zero, suc, ◌+◌, ◌<◌, ◌≤◌, Bool, true, false, cond, not, ◌⊎◌, List, [], ◌∷◌, length, get_or, set, take, replicate, Decides, sym, refl, ap, ◌∙◌, inl, inr, arith, length-take-le}
+use Rattle.std.proofs.lemmas.List.{length-set, get_or-set_same, get_or-set_other, get_or-replicate, get_or_past, length-replicate, get_or-take}
+use Rattle.std.specs.List.{AllByRecursion as All, list_all}
+use Rattle.std.proofs.lemmas.List.Elements.{All-get_or, All-from_get_or}
+use Rattle.std.proofs.lemmas.List.Sums.{AllPass-from_list_all, list_all-from_AllPass}
 use Rattle.std.proofs.lemmas.Bool.{cases_eq, cases_lt, both_ways, false≢true, not-true, not_from_false}
 use Rattle.graph.specs.Graph.{Graph, Edge, Joined, Belongs, Connected}
 use Rattle.graph.specs.Reach.{Seen, Visited}
@@ -41,9 +43,6 @@ pub record Searching (g : Graph) (under at : ℕ) (s t : List Bool) : Type 0 whe
 -- the first k neighbours, where lighter, are seen
 abbrev pub Sought : List Neighbour → ℕ → ℕ → List Bool → Type 0
 Sought ns under k t = (i : ℕ) → i < k → (get_or ns i nobody).weight < under → Seen t (get_or ns i nobody).node
-
-pub search_begins : (g : Graph) (under at : ℕ) (s : List Bool) → Searching g under at s s
-search_begins g under at s = record { kept = λ x p. p; joined = λ x p. inl p; closed = λ x y p. inl p }
 
 module _ (g : Graph) (under at : ℕ) where
   pub search_goes_on : (n : ℕ) (s t r : List Bool) → Edge g at n → g.weight at n < under → Searching g under at s t → Visited g under n t r → Searching g under at s r
@@ -195,3 +194,15 @@ module _ (n : ℕ) (es : List WeightedEdge) (valid : AllValid n es) where
         let w = c 0 x some p in
         joined_seen (graph_from n es) m 0 256 t v x
         (under_all (graph_from n es) m (λ a b. let k = weight_high n es (valid_each n es valid) a b in omega arith) w.1)
+
+-- the nodes in front are all seen exactly if each of them is
+module _ (t : List Bool) (n : ℕ) (l : n ≤ length t) where
+  pub all_seen_then : list_all (λ b. b) (take n t) ≡ true → (x : ℕ) → x < n → Seen t x
+  all_seen_then h x p =
+      let long : x < length (take n t) = omega (arith, length-take-le n t l) in
+      rw get_or-take at (All-get_or (λ b. b ≡ true) (take n t) x false long (AllPass-from_list_all (λ b. b) (take n t) h))
+
+  pub all_seen_if : ((x : ℕ) → x < n → Seen t x) → list_all (λ b. b) (take n t) ≡ true
+  all_seen_if h =
+      list_all-from_AllPass (λ b. b) (take n t)
+      (All-from_get_or (λ b. b ≡ true) (take n t) false (λ x p. let q : x < n = omega (arith, p, length-take-le n t l) in rw get_or-take (h x q)))

@@ -1,9 +1,9 @@
 -- What building a list of edges does, one edge at a time.
-use Rattle.std.specs.Prelude.{◌≡◌, ℕ, ◌+◌, ◌⊎◌, List, [], ◌∷◌, ◌++◌, length, get_or, take, Some, None, Ok, Err, Result, ◌≢◌, slice_index_or}
+use Rattle.std.specs.Prelude.{◌≡◌, ℕ, ◌⊎◌, List, [], ◌∷◌, ◌++◌, length, Some, None, Ok, Err, Result, ◌≢◌, slice_index_or}
+use Rattle.arrayvec.specs.ArrayVec.{ArrayVec}
 use Rattle.graph.specs.Edges.{alone}
 use Rattle.graph.specs.Faults.{count_fault, edge_fault}
 use Rattle.graph.specs.Lists.{edges_of}
-use Rattle.graph.specs.declared.edge.Adjacent.{Adjacent}
 use Rattle.graph.specs.declared.edge.Neighbour.{Neighbour}
 use Rattle.graph.specs.declared.edge.WeightedEdge.{WeightedEdge}
 use Rattle.graph.specs.declared.edge_list.EdgeList.{EdgeList}
@@ -11,11 +11,10 @@ use Rattle.graph.specs.declared.fault.Fault.{Fault}
 use Rattle.graph.specs.declared.fault.Fault.TheVariants.{NoMemory}
 
 -- node i has one neighbour more, behind the others, and no other node changed
-pub record Grows (ps qs : List Adjacent) (i : ℕ) (n : Neighbour) : Type 0 where
-  pub long : length qs ≡ length ps
-  pub more : (get_or qs i alone).degree ≡ (get_or ps i alone).degree + 1
-  pub last : take (get_or qs i alone).degree (get_or qs i alone).to ≡ take (get_or ps i alone).degree (get_or ps i alone).to ++ n ∷ []
-  pub others : (x : ℕ) → (x ≢ i) → slice_index_or qs x alone ≡ slice_index_or ps x alone
+pub record Grows (vs ws : List (ArrayVec Neighbour)) (i : ℕ) (n : Neighbour) : Type 0 where
+  pub long : length ws ≡ length vs
+  pub more : (slice_index_or ws i alone).items ≡ (slice_index_or vs i alone).items ++ n ∷ []
+  pub others : (x : ℕ) → (x ≢ i) → slice_index_or ws x alone ≡ slice_index_or vs x alone
 
 -- a list of n nodes with no edges exactly if there are 1 to 256, but for want of memory
 abbrev pub Started : ℕ → Result EdgeList Fault → Type 0

@@ -1,9 +1,10 @@
 -- Lists of edges: which graph one is, the neighbours of a node, and when one is sound.
-use Rattle.std.specs.Prelude.{◌≡◌, ℕ, ◌<◌, ◌≤◌, Bool, true, false, cond, not, ◌&&◌, ◌||◌, List, [], ◌∷◌, ◌++◌, length, get_or, take, ◌==◌, ◌≢◌, slice_index_or}
+use Rattle.std.specs.Prelude.{◌≡◌, ℕ, ◌<◌, ◌≤◌, Bool, true, cond, not, ◌&&◌, ◌||◌, List, [], ◌∷◌, ◌++◌, length, ◌==◌, ◌≢◌, slice_index_or}
+use Rattle.std.specs.List.{list_any}
+use Rattle.arrayvec.specs.ArrayVec.{ArrayVec}
 use Rattle.graph.specs.Graph.{Graph}
 use Rattle.graph.specs.declared.edge.WeightedEdge.{WeightedEdge}
 use Rattle.graph.specs.declared.edge.Neighbour.{Neighbour}
-use Rattle.graph.specs.declared.edge.Adjacent.{Adjacent}
 
 -- does an edge run between a and b, in either direction
 abbrev pub between : WeightedEdge → ℕ → ℕ → Bool
@@ -15,9 +16,8 @@ weight_in [] a b = 0
 weight_in (e ∷ es) a b = cond (between e a b) e.weight (weight_in es a b)
 
 -- has some edge this weight
-unfoldable pub has_weight : List WeightedEdge → ℕ → Bool
-has_weight [] w = false
-has_weight (e ∷ es) w = e.weight == w || has_weight es w
+abbrev pub has_weight : List WeightedEdge → ℕ → Bool
+has_weight es w = list_any (λ e. e.weight == w) es
 
 -- the graph that a list of edges is
 abbrev pub graph_from : ℕ → List WeightedEdge → Graph
@@ -73,20 +73,10 @@ pub record Sound (n : ℕ) (es : List WeightedEdge) : Type 0 where
   pub degrees : FewEach es
 
 -- a node without neighbours, as past the end of a list
-abbrev pub alone : Adjacent
-alone = record { degree = 0; to = [] }
+abbrev pub alone : ArrayVec Neighbour
+alone = record { items = [] }
 
--- each node has as many places in use as it has neighbours
-abbrev pub Counted : ℕ → List WeightedEdge → List Adjacent → Type 0
-Counted n es ps = (x : ℕ) → x < n → (get_or ps x alone).degree ≡ length (neighbours_of es x)
-
--- are two lists of neighbours the same
-unfoldable pub alike : List Neighbour → List Neighbour → Bool
-alike [] [] = true
-alike [] (q ∷ qs) = false
-alike (p ∷ ps) [] = false
-alike (p ∷ ps) (q ∷ qs) = (p.node == q.node && p.weight == q.weight) && alike ps qs
-
--- the places in use of each node hold its neighbours
-abbrev pub Held : ℕ → List WeightedEdge → List Adjacent → Type 0
-Held n es ps = (x : ℕ) → x < n → alike (take (get_or ps x alone).degree (get_or ps x alone).to) (neighbours_of es x) ≡ true
+-- beside each node stand its neighbours
+pub record Beside (n : ℕ) (es : List WeightedEdge) (vs : List (ArrayVec Neighbour)) : Type 0 where
+  pub places : length vs ≡ n
+  pub held : (x : ℕ) → x < n → (slice_index_or vs x alone).items ≡ neighbours_of es x

@@ -1,34 +1,40 @@
 -- What the lines of a valley file say.
 use Rattle.std.specs.Prelude.{ℕ, cond, ◌||◌, List, map, length, Some, None, codes, Option, ◌==◌, slice_index}
+use Rattle.std.specs.Option.{option_map_or}
 use Rattle.std.specs.Str.{bytes_eq}
 use Rattle.graph.specs.Text.{word_of, after_word, number_of, lines_of}
+use Rattle.graph.specs.declared.edge.WeightedEdge.{WeightedEdge}
 use Rattle.graph.specs.declared.item.Item.{Item}
 use Rattle.graph.specs.declared.item.Item.TheVariants.{Blank, Houses, Line, Unknown}
 
--- houses, where there is a number and nothing behind it
-abbrev pub houses_or : Option ℕ → List ℕ → Item
-houses_or None end = Unknown
-houses_or (Some n) end = cond (length end == 0) (Houses n) Unknown
+-- x, where nothing is left
+abbrev pub ended : {X : Type 0} → List ℕ → X → Option X
+ended end x = cond (length end == 0) (Some x) None
 
-abbrev pub count_item : List ℕ → Item
-count_item bs = houses_or (number_of (word_of bs)) (word_of (after_word bs))
+-- a number with nothing behind it
+abbrev pub count_of : Option ℕ → List ℕ → Option ℕ
+count_of None end = None
+count_of (Some n) end = ended end n
 
--- a line, where there are three numbers and nothing behind them
-abbrev pub line_or : Option ℕ → Option ℕ → Option ℕ → List ℕ → Item
-line_or None b w end = Unknown
-line_or (Some a) None w end = Unknown
-line_or (Some a) (Some b) None end = Unknown
-line_or (Some a) (Some b) (Some w) end = cond (length end == 0) (Line (record { a = a; b = b; weight = w })) Unknown
+abbrev pub count_behind : List ℕ → Option ℕ
+count_behind bs = count_of (number_of (word_of bs)) (word_of (after_word bs))
 
-abbrev pub line_item : List ℕ → Item
-line_item bs =
-    line_or (number_of (word_of bs)) (number_of (word_of (after_word bs))) (number_of (word_of (after_word (after_word bs)))) (word_of (after_word (after_word (after_word bs))))
+-- three numbers with nothing behind them
+abbrev pub edge_of : Option ℕ → Option ℕ → Option ℕ → List ℕ → Option WeightedEdge
+edge_of None b w end = None
+edge_of (Some a) None w end = None
+edge_of (Some a) (Some b) None end = None
+edge_of (Some a) (Some b) (Some w) end = ended end (record { a = a; b = b; weight = w })
+
+abbrev pub edge_behind : List ℕ → Option WeightedEdge
+edge_behind bs =
+    edge_of (number_of (word_of bs)) (number_of (word_of (after_word bs))) (number_of (word_of (after_word (after_word bs)))) (word_of (after_word (after_word (after_word bs))))
 
 -- by its first word w: nothing, or a comment, `houses` or `line`
 abbrev pub item_by : List ℕ → List ℕ → Item
 item_by w rest =
     cond (length w == 0 || slice_index w 0 == 35) Blank
-    (cond (bytes_eq w (codes "houses")) (count_item rest) (cond (bytes_eq w (codes "line")) (line_item rest) Unknown))
+    (cond (bytes_eq w (codes "houses")) (option_map_or Houses (count_behind rest) Unknown) (cond (bytes_eq w (codes "line")) (option_map_or Line (edge_behind rest) Unknown) Unknown))
 
 -- what a line says
 abbrev pub item_of : List ℕ → Item

@@ -1,15 +1,16 @@
 -- Marks of edges as text, and the verdict on them.
-use Rattle.std.specs.Prelude.{ℕ, cond, not, ◌||◌, List, [], ◌∷◌, length, replicate, Some, None, codes, Option, ◌==◌}
+use Rattle.std.specs.Prelude.{ℕ, cond, not, ◌||◌, List, length, fold, Some, None, codes, Option, ◌==◌}
+use Rattle.std.specs.Option.{option_map_or}
 use Rattle.std.specs.Str.{bytes_eq}
 use Rattle.graph.specs.Lists.{edges_of, graph_of}
-use Rattle.graph.specs.Marks.{unmarked, marked, Judged}
+use Rattle.graph.specs.Marks.{fresh, marked, Judged}
 use Rattle.graph.specs.Text.{word_of, after_word, number_of, lines_of}
 use Rattle.graph.specs.declared.edge.WeightedEdge.{WeightedEdge}
 use Rattle.graph.specs.declared.edge_list.EdgeList.{EdgeList}
 use Rattle.graph.specs.declared.mark.Mark.{Mark}
 use Rattle.graph.specs.declared.mark.Mark.TheVariants.{Basic, Branch, Rejected}
-use Rattle.graph.specs.declared.mark.EndMarks.{EndMarks}
-use Rattle.graph.specs.declared.mark_file.MarkLine.{MarkLine}
+use Rattle.graph.specs.declared.mark.MarkLine.{MarkLine}
+use Rattle.graph.specs.declared.mark.MarkedEdge.{MarkedEdge}
 
 -- the words for marks
 abbrev pub mark_word : List ℕ → Option Mark
@@ -32,19 +33,14 @@ mark_line_by w bs =
 abbrev pub mark_line_of : List ℕ → Option MarkLine
 mark_line_of line = mark_line_by (word_of line) (after_word line)
 
--- the marks of all edges after a line
-abbrev pub with_line : List WeightedEdge → List EndMarks → Option MarkLine → List EndMarks
-with_line es ms None = ms
-with_line es ms (Some m) = marked es ms m.at m.to m.mark
+-- the edges after a line
+abbrev pub marked_by : List MarkedEdge → List ℕ → List MarkedEdge
+marked_by ms line = option_map_or (marked ms) (mark_line_of line) ms
 
-abbrev pub marked_by : List WeightedEdge → List EndMarks → List ℕ → List EndMarks
-marked_by es ms line = with_line es ms (mark_line_of line)
-
--- the marks of all edges after some lines
-unfoldable pub marks_after : List WeightedEdge → List EndMarks → List (List ℕ) → List EndMarks
-marks_after es ms [] = ms
-marks_after es ms (l ∷ ls) = marks_after es (marked_by es ms l) ls
+-- the edges after some lines
+abbrev pub marks_after : List MarkedEdge → List (List ℕ) → List MarkedEdge
+marks_after ms lines = fold marked_by ms lines
 
 -- the verdict on the marks of a text: none is wrong, or this edge is the lightest that is
 abbrev pub Verdict : EdgeList → List ℕ → Option WeightedEdge → Type 0
-Verdict l text r = Judged (graph_of l) (edges_of l) (marks_after (edges_of l) (replicate (length (edges_of l)) unmarked) (lines_of text)) r
+Verdict l text r = Judged (graph_of l) (marks_after (fresh (edges_of l)) (lines_of text)) r

@@ -1,8 +1,11 @@
 -- Reading a valley file: its items are taken one at a time, and the first that is at fault refuses the file.
-use Rattle.std.specs.Prelude.{◌≡◌, ℕ, ◌+◌, ◌⊎◌, List, [], ◌∷◌, ◌++◌, length, Some, None, Ok, Err, Option, Result}
+use Rattle.std.specs.Prelude.{◌≡◌, ℕ, ◌+◌, ◌⊎◌, List, [], ◌∷◌, ◌++◌, length, Some, None, Ok, Err, Option, Result, codes}
+use Rattle.std.specs.Fmt.{decimal}
+use Rattle.message.specs.Refusals.{number_of}
+use Rattle.message.specs.declared.refusals.Refusal.{Refusal as MessageRefusal}
 use Rattle.graph.specs.Graph.{Connected}
 use Rattle.graph.specs.Edges.{graph_from}
-use Rattle.graph.specs.Faults.{count_fault, edge_fault}
+use Rattle.graph.specs.Faults.{count_fault, edge_fault, refusal_of, words_of}
 use Rattle.graph.specs.Items.{items_of}
 use Rattle.graph.specs.Lists.{edges_of, graph_of}
 use Rattle.graph.specs.declared.edge.WeightedEdge.{WeightedEdge}
@@ -76,3 +79,11 @@ Read text (Ok l) = (reading_of 0 (items_of text) ≡ accepted l.nodes (edges_of 
 Read text (Err e) =
     RefusedBy (reading_of 0 (items_of text)) e ⊎
     ((n : ℕ) × (es : List WeightedEdge) × (reading_of 0 (items_of text) ≡ accepted n es) × (Connected (graph_from n es) → ⊥) × (e.fault ≡ Apart) × (e.line ≡ length (items_of text)))
+
+-- what a person is told of a refusal: its number and its line, or that memory is wanting
+abbrev pub told_as : Option MessageRefusal → Refusal → List ℕ
+told_as None r = words_of r.fault
+told_as (Some n) r = codes "refused " ++ decimal (number_of n) ++ codes ": line " ++ decimal r.line ++ codes ": " ++ words_of r.fault
+
+abbrev pub told_of : Refusal → List ℕ
+told_of r = told_as (refusal_of r.fault) r

@@ -1,39 +1,39 @@
 -- Lines, words and numbers of a text of bytes.
 use Rattle.std.specs.Prelude.{ℕ, ◌+◌, ◌-◌, ◌*◌, min, Bool, cond, not, ◌&&◌, ◌||◌, List, [], ◌∷◌, length, take, drop, Some, None, Option, ◌==◌, nat_le}
 use Rattle.std.specs.List.{prefix_len}
-use Rattle.graph.specs.declared.text.Class.{Class}
-use Rattle.graph.specs.declared.text.Class.TheVariants.{Blank, Solid, Inline}
 
 -- a space, a tab or a carriage return
 abbrev pub is_blank : ℕ → Bool
 is_blank b = b == 32 || (b == 9 || b == 13)
 
--- the bytes of each class: blank, not blank, not the end of a line
-abbrev pub of_class : Class → ℕ → Bool
-of_class Blank b = is_blank b
-of_class Solid b = not (is_blank b)
-of_class Inline b = not (b == 10)
+-- a byte of a word
+abbrev pub is_solid : ℕ → Bool
+is_solid b = not (is_blank b)
 
--- how many bytes at the front are of a class
-abbrev pub front : Class → List ℕ → ℕ
-front k bs = prefix_len (of_class k) bs
+-- a byte within a line
+abbrev pub is_inline : ℕ → Bool
+is_inline b = not (b == 10)
+
+-- how many bytes at the front pass a test
+abbrev pub front : (ℕ → Bool) → List ℕ → ℕ
+front test bs = prefix_len test bs
 
 -- the first line of a text, and what is behind it
 abbrev pub line_of : List ℕ → List ℕ
-line_of bs = take (front Inline bs) bs
+line_of bs = take (front is_inline bs) bs
 
 abbrev pub after_line : List ℕ → List ℕ
-after_line bs = drop 1 (drop (front Inline bs) bs)
+after_line bs = drop 1 (drop (front is_inline bs) bs)
 
 abbrev pub after_blanks : List ℕ → List ℕ
-after_blanks bs = drop (front Blank bs) bs
+after_blanks bs = drop (front is_blank bs) bs
 
 -- the first word of a line, and what is behind it
 abbrev pub word_of : List ℕ → List ℕ
-word_of bs = take (front Solid (after_blanks bs)) (after_blanks bs)
+word_of bs = take (front is_solid (after_blanks bs)) (after_blanks bs)
 
 abbrev pub after_word : List ℕ → List ℕ
-after_word bs = drop (front Solid (after_blanks bs)) (after_blanks bs)
+after_word bs = drop (front is_solid (after_blanks bs)) (after_blanks bs)
 
 -- a number by its digits, after a value; one beyond 32 bits counts as the largest
 unfoldable pub decimal : ℕ → List ℕ → Option ℕ

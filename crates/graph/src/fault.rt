@@ -1,11 +1,17 @@
 // Why a valley file is refused.
-ghost use Rattle.graph.specs.Faults.{refusal_of, code_of};
-ghost use Rattle.std.specs.Prelude.{◌≡◌};
+ghost use Rattle.graph.specs.Faults.{refusal_of, words_of};
+ghost use Rattle.graph.specs.declared.fault.Fault.TheVariants.{NoMemory};
+ghost use Rattle.std.specs.Prelude.{◌≡◌, Some};
 
-// What is wrong with a line of the file, or with the whole.
-#[derive(Clone, Copy)]
+use message::Refusal;
+use std::alloc::{AllocError, AllocFailed};
+use std::error::Error;
+use std::fmt;
+
+// What is wrong with a line of the file, or with the whole. `fault as u8` is a number for each.
+#[derive(Clone, Copy, PartialEq, Eq, Debug)]
 pub enum Fault {
-    NotUnderstood,
+    NotUnderstood = 1,
     NoCount,
     CountTwice,
     CountOutOfRange,
@@ -20,38 +26,20 @@ pub enum Fault {
 }
 
 impl Fault {
-    // The number of the refusal: 7, or 0 for want of memory, which is none.
-    pub fn refusal(&self) -> u8
-        ensures { result ≡ refusal_of self.now }
+    // Which refusal it is; want of memory is none.
+    pub fn refusal(self) -> Option<Refusal>
+        ensures { result ≡ refusal_of self }
     {
         match self {
-            Fault::NoMemory => 0,
-            _ => 7,
-        }
-    }
-
-    // A number for each fault.
-    pub fn code(&self) -> u8
-        ensures { result ≡ code_of self.now }
-    {
-        match self {
-            Fault::NotUnderstood => 1,
-            Fault::NoCount => 2,
-            Fault::CountTwice => 3,
-            Fault::CountOutOfRange => 4,
-            Fault::NodeOutOfRange => 5,
-            Fault::OwnNode => 6,
-            Fault::WeightOutOfRange => 7,
-            Fault::EdgeTwice => 8,
-            Fault::WeightTwice => 9,
-            Fault::TooManyEdges => 10,
-            Fault::Apart => 11,
-            Fault::NoMemory => 12,
+            Fault::NoMemory => None,
+            _ => Some(Refusal::UnsoundGraph),
         }
     }
 
     // What a person is told.
-    pub fn reason(&self) -> &'static str {
+    pub fn reason(self) -> &'static str
+        ensures { result.now ≡ words_of self }
+    {
         match self {
             Fault::NotUnderstood => "neither `houses N` nor `line A B L`",
             Fault::NoCount => "`houses N` has to come first",
@@ -66,5 +54,32 @@ impl Fault {
             Fault::Apart => "the houses can't all be joined",
             Fault::NoMemory => "out of memory",
         }
+    }
+}
+
+impl fmt::Display for Fault {
+    ghost output = { λ fault. Some (words_of fault) };
+
+    fn fmt<W: fmt::Write>(&self, f: &mut fmt::Formatter<W>) -> fmt::Result {
+        f.write_str(self.reason())
+    }
+}
+
+impl Error for Fault {}
+
+// By hand, since thiserror's `From` has no contract and clauses name the case.
+impl From<AllocError> for Fault {
+    ghost from_gives = { λ _ fault. fault ≡ NoMemory };
+
+    fn from(_e: AllocError) -> Fault {
+        Fault::NoMemory
+    }
+}
+
+impl<T: Drop> From<AllocFailed<T>> for Fault {
+    ghost from_gives = { λ _ fault. fault ≡ NoMemory };
+
+    fn from(_e: AllocFailed<T>) -> Fault {
+        Fault::NoMemory
     }
 }

@@ -1,12 +1,12 @@
 // What one line of a valley file says.
-ghost use Rattle.graph.specs.Items.{item_of, count_item, line_item};
-ghost use Rattle.std.specs.Prelude.{◌≡◌, length};
+ghost use Rattle.graph.specs.Items.{item_of, count_behind, edge_behind};
+ghost use Rattle.std.specs.Prelude.{◌≡◌};
 
 use crate::edge::WeightedEdge;
-use crate::text::{Cursor, is, number};
+use crate::text::{Cursor, number};
 
 // A blank line or a comment, `houses N`, `line A B L`, or something else.
-#[derive(Clone, Copy)]
+#[derive(Clone, Copy, PartialEq, Eq, Debug)]
 pub enum Item {
     Blank,
     Houses(usize),
@@ -14,34 +14,25 @@ pub enum Item {
     Unknown,
 }
 
-// What stands behind `houses`.
-fn count_item(cursor: &mut Cursor<'_>) -> Item
-    ensures { result ≡ count_item cursor.old.rest.now }
+// The count that stands behind `houses`.
+fn count(cursor: &mut Cursor<'_>) -> Option<usize>
+    ensures { result ≡ count_behind cursor.old.rest.now }
 {
-    let count = number(cursor.word());
-    let end = cursor.word();
-    match count {
-        Some(n) if end.is_empty() => Item::Houses(n as usize),
-        _ => Item::Unknown,
-    }
+    let count = number(cursor.word())? as usize;
+    cursor.word().is_empty().then_some(count)
 }
 
-// What stands behind `line`.
-fn line_item(cursor: &mut Cursor<'_>) -> Item
-    ensures { result ≡ line_item cursor.old.rest.now }
+// The edge that stands behind `line`.
+fn edge(cursor: &mut Cursor<'_>) -> Option<WeightedEdge>
+    ensures { result ≡ edge_behind cursor.old.rest.now }
 {
-    let a = number(cursor.word());
-    let b = number(cursor.word());
-    let weight = number(cursor.word());
-    let end = cursor.word();
-    match (a, b, weight) {
-        (Some(a), Some(b), Some(weight)) if end.is_empty() => Item::Line(WeightedEdge {
-            a: a as usize,
-            b: b as usize,
-            weight,
-        }),
-        _ => Item::Unknown,
-    }
+    let a = number(cursor.word())? as usize;
+    let b = number(cursor.word())? as usize;
+    let weight = number(cursor.word())?;
+    cursor
+        .word()
+        .is_empty()
+        .then_some(WeightedEdge { a, b, weight })
 }
 
 // What a line says.
@@ -49,15 +40,10 @@ pub(crate) fn item_of(line: &[u8]) -> Item
     ensures { result ≡ item_of line.now }
 {
     let mut cursor = Cursor::new(line);
-    let word = cursor.word();
-    if word.is_empty() || word[0] == b'#' {
-        return Item::Blank;
+    match cursor.word() {
+        [] | [b'#', ..] => Item::Blank,
+        b"houses" => count(&mut cursor).map_or(Item::Unknown, Item::Houses),
+        b"line" => edge(&mut cursor).map_or(Item::Unknown, Item::Line),
+        _ => Item::Unknown,
     }
-    if is(word, b"houses") {
-        return count_item(&mut cursor);
-    }
-    if is(word, b"line") {
-        return line_item(&mut cursor);
-    }
-    Item::Unknown
 }

@@ -6,6 +6,7 @@ pub mod edge;
 pub mod edge_list;
 pub mod fault;
 pub mod item;
+pub mod items;
 pub mod lookup;
 pub mod mark;
 pub mod mark_file;

@@ -1,48 +1,57 @@
 // What the two ends of an edge think of it.
-ghost use Rattle.graph.specs.Marks.{is_branch, is_rejected, both_branch, both_rejected};
-ghost use Rattle.std.specs.Prelude.{◌≡◌};
+ghost use Rattle.graph.specs.Marks.{Both, with_mark};
+ghost use Rattle.std.specs.Prelude.{◌≡◌, Decides};
+
+use crate::edge::WeightedEdge;
 
 // Not decided yet, in the net, or left out of it.
-#[derive(Clone, Copy)]
+#[derive(Clone, Copy, PartialEq, Eq, Debug)]
 pub enum Mark {
     Basic,
     Branch,
     Rejected,
 }
 
-impl Mark {
-    pub(crate) fn is_branch(self) -> bool
-        ensures { result ≡ is_branch self }
-    {
-        matches!(self, Mark::Branch)
-    }
-
-    pub(crate) fn is_rejected(self) -> bool
-        ensures { result ≡ is_rejected self }
-    {
-        matches!(self, Mark::Rejected)
-    }
+// The mark that node `at` has for its edge to node `to`.
+#[derive(Clone, Copy, PartialEq, Eq, Debug)]
+pub struct MarkLine {
+    pub at: usize,
+    pub to: usize,
+    pub mark: Mark,
 }
 
 // The marks of an edge at its ends `a` and `b`.
-#[derive(Clone, Copy)]
+#[derive(Clone, Copy, PartialEq, Eq, Debug)]
 pub struct EndMarks {
     pub a: Mark,
     pub b: Mark,
 }
 
 impl EndMarks {
-    // Is the edge in the net, as both ends see it?
-    pub(crate) fn both_branch(self) -> bool
-        ensures { result ≡ both_branch self }
+    // Do both ends have this mark?
+    pub(crate) fn both(self, mark: Mark) -> bool
+        ensures { Decides result (Both self mark) }
     {
-        self.a.is_branch() && self.b.is_branch()
+        self.a == mark && self.b == mark
     }
+}
 
-    // Is it left out, as both ends see it?
-    pub(crate) fn both_rejected(self) -> bool
-        ensures { result ≡ both_rejected self }
+// An edge with its marks.
+#[derive(Clone, Copy, PartialEq, Eq, Debug)]
+pub struct MarkedEdge {
+    pub edge: WeightedEdge,
+    pub ends: EndMarks,
+}
+
+impl MarkedEdge {
+    // Sets the mark at one end.
+    pub(crate) fn set(&mut self, line: MarkLine)
+        ensures { self.new ≡ with_mark self.old line }
     {
-        self.a.is_rejected() && self.b.is_rejected()
+        if self.edge.a == line.at {
+            self.ends.a = line.mark;
+        } else {
+            self.ends.b = line.mark;
+        }
     }
 }

@@ -1,13 +1,23 @@
 // Which nodes are joined by lighter edges, by recursion on the nodes not seen yet.
 ghost use Rattle.std.specs.Prelude.{◌≡◌, ℕ, ◌<◌, ◌≤◌, false, Decides, slice_index_or};
+ghost use Rattle.std.specs.List.{list_all};
 ghost use Rattle.graph.specs.Graph.{Joined, Belongs, Connected};
 ghost use Rattle.graph.specs.Lists.{graph_of};
 ghost use Rattle.graph.specs.Reach.{Visited};
 
 use crate::edge_list::EdgeList;
 
+// What is seen stands in an array: joining is asked where nothing may fail, and a `Vec` could.
+
+// Are all of these nodes seen?
+fn all_seen(seen: &[bool]) -> bool
+    ensures { result ≡ list_all (λ s. s) seen.now }
+{
+    seen.iter().all(|s| *s)
+}
+
 impl EdgeList {
-    // Sees a node, and all that lighter edges join to it by way of nodes not seen yet.
+    // Sees a node, and all that lighter edges join to it by way of nodes not seen yet. By recursion, a rule of the project.
     fn visit(&self, under: u32, at: usize, seen: &mut [bool; 256])
         requires inside { at < self.now.nodes }
         requires fresh { slice_index_or seen.old at false ≡ false }
@@ -40,21 +50,18 @@ impl EdgeList {
     pub fn belongs(&self, a: usize, b: usize) -> bool
         ensures { Decides result (Belongs (graph_of self.now) a b) }
     {
-        let weight = self.weight(a, b);
-        weight >= 1 && !self.joined(weight, a, b)
+        let Some(weight) = self.weight(a, b) else {
+            return false;
+        };
+        !self.joined(weight, a, b)
     }
 
-    // Can all nodes be joined?
+    // Can all nodes be joined? No weight is as great as the greatest number of 32 bits.
     pub fn connected(&self) -> bool
         ensures { Decides result (Connected (graph_of self.now)) }
     {
         let mut seen = [false; 256];
         self.visit(u32::MAX, 0, &mut seen);
-        for x in 0..self.nodes {
-            if !seen[x] {
-                return false;
-            }
-        }
-        true
+        all_seen(&seen[..self.nodes])
     }
 }

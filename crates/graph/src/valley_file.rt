@@ -1,17 +1,18 @@
 // A valley file: `houses N`, then `line A B L` for each edge.
-ghost use Rattle.std.specs.Prelude.{◌≡◌, ℕ, ◌+◌, ◌<◌};
-ghost use Rattle.graph.specs.Reading.{Taken, Read};
-ghost use Rattle.graph.specs.Turns.{Countable, Next, Opened, AllTaken};
+ghost use Rattle.std.specs.Prelude.{Some};
+ghost use Rattle.graph.specs.Reading.{Taken, Read, told_of};
+ghost use Rattle.graph.specs.Turns.{Sought, Opened, AllTaken};
 
 use crate::edge_list::EdgeList;
 use crate::fault::Fault;
-use crate::item::{Item, item_of};
-use crate::text::Cursor;
+use crate::item::Item;
+use crate::items::Items;
 use std::alloc::Global;
+use std::error::Error;
 use std::fmt;
 
 // A line of the file and what is wrong with it; where the nodes can't be joined, the last line.
-#[derive(Clone, Copy)]
+#[derive(Clone, Copy, PartialEq, Eq, Debug)]
 pub struct Refusal {
     pub line: usize,
     pub fault: Fault,
@@ -19,38 +20,21 @@ pub struct Refusal {
 
 // `refused 7: line 3: ..`, or that memory is wanting.
 impl fmt::Display for Refusal {
+    ghost output = { λ r. Some (told_of r) };
+
     fn fmt<W: fmt::Write>(&self, f: &mut fmt::Formatter<W>) -> fmt::Result {
-        let number = self.fault.refusal();
-        let line = self.line;
-        let reason = self.fault.reason();
-        if number == 0 {
-            return write!(f, "{reason}");
+        let Refusal { line, fault } = *self;
+        match fault.refusal() {
+            Some(refusal) => {
+                let number = refusal.number();
+                write!(f, "refused {number}: line {line}: {fault}")
+            }
+            None => write!(f, "{fault}"),
         }
-        write!(f, "refused {number}: line {line}: {reason}")
     }
 }
 
-// The items of a text, one at a time, and how many lines were read.
-#[derive(Drop)]
-pub struct Items<'a> {
-    cursor: Cursor<'a>,
-    line: usize,
-}
-
-impl Items<'_> {
-    // What the next line says.
-    fn next_item(&mut self) -> Option<Item>
-        requires { Countable self.old }
-        ensures { Next self.old self.new result }
-    {
-        if self.cursor.at_end() {
-            return None;
-        }
-        let line = self.cursor.line();
-        self.line += 1;
-        Some(item_of(line))
-    }
-}
+impl Error for Refusal {}
 
 // One item behind `houses`.
 pub(crate) fn take_item(list: &mut EdgeList, item: Item) -> Result<(), Fault>
@@ -64,49 +48,46 @@ pub(crate) fn take_item(list: &mut EdgeList, item: Item) -> Result<(), Fault>
     }
 }
 
-// All items up to `houses`.
-fn open(heap: Global, items: &mut Items<'_>) -> Result<EdgeList, Refusal>
-    requires { Countable items.old }
-    ensures { Opened items.old items.new result }
-{
-    while let Some(item) = items.next_item() {
-        let line = items.line;
-        match item {
-            Item::Blank => {}
-            Item::Houses(n) => {
-                return match EdgeList::new(heap, n) {
-                    Ok(list) => Ok(list),
-                    Err(fault) => Err(Refusal { line, fault }),
-                };
-            }
-            Item::Line(_) => return Err(Refusal {
-                line,
-                fault: Fault::NoCount,
-            }),
-            Item::Unknown => return Err(Refusal {
-                line,
-                fault: Fault::NotUnderstood,
-            }),
-        }
+impl Items<'_> {
+    // The next item that is not blank.
+    fn first(&mut self) -> Option<Item>
+        ensures { Sought self.old result self.new }
+    {
+        self.find(|item| *item != Item::Blank)
     }
-    Err(Refusal {
-        line: items.line + 1,
-        fault: Fault::NoCount,
-    })
 }
 
-// All items behind `houses`.
+// All items up to `houses`.
+fn open(heap: Global, items: &mut Items<'_>) -> Result<EdgeList, Refusal>
+    ensures { Opened items.old items.new result }
+{
+    let Some(item) = items.first() else {
+        return Err(Refusal {
+            line: items.line + 1,
+            fault: Fault::NoCount,
+        });
+    };
+    let line = items.line;
+    match item {
+        Item::Houses(n) => EdgeList::new(heap, n).map_err(|fault| Refusal { line, fault }),
+        Item::Line(_) => Err(Refusal {
+            line,
+            fault: Fault::NoCount,
+        }),
+        Item::Blank | Item::Unknown => Err(Refusal {
+            line,
+            fault: Fault::NotUnderstood,
+        }),
+    }
+}
+
+// All items behind `houses`. In the loop `items` is asked for the line, so no `for` takes it.
 fn take_all(list: &mut EdgeList, items: &mut Items<'_>) -> Result<(), Refusal>
-    requires { Countable items.old }
     ensures { AllTaken list.old list.new items.old items.new result }
 {
-    while let Some(item) = items.next_item() {
-        if let Err(fault) = take_item(list, item) {
-            return Err(Refusal {
-                line: items.line,
-                fault,
-            });
-        }
+    while let Some(item) = items.next() {
+        let line = items.line;
+        take_item(list, item).map_err(|fault| Refusal { line, fault })?;
     }
     Ok(())
 }
@@ -115,10 +96,7 @@ fn take_all(list: &mut EdgeList, items: &mut Items<'_>) -> Result<(), Refusal>
 pub fn read(heap: Global, text: &[u8]) -> Result<EdgeList, Refusal>
     ensures { Read text.now result }
 {
-    let mut items = Items {
-        cursor: Cursor::new(text),
-        line: 0,
-    };
+    let mut items = Items::new(text);
     let mut list = open(heap, &mut items)?;
     take_all(&mut list, &mut items)?;
     if !list.connected() {

@@ -1,35 +1,24 @@
 // Tests of `graph`: every kind of bad valley file, good ones, and verdicts on marks.
 #![tactic(auto)]
 
-use graph::edge_list::EdgeList;
+use graph::fault::Fault;
 use graph::mark_file::judge;
 use graph::valley_file::{Refusal, read};
 use std::alloc::{AllocError, Global};
 
-// The line and the code of the fault of a file, (0, 0) where it is accepted.
-pub fn fault_of(heap: Global, text: &[u8]) -> (usize, u8) {
-    match read(heap, text) {
-        Ok(_) => (0, 0),
-        Err(Refusal { line, fault }) => (line, fault.code()),
-    }
+// Why a file is refused, if it is.
+pub fn refusal_of(heap: Global, text: &[u8]) -> Option<Refusal> {
+    read(heap, text).err()
 }
 
-// The length of the line that the marks have wrong, 0 where all are right or the file is refused.
-pub fn wrong_length(heap: Global, valley: &[u8], marks: &[u8]) -> Result<u32, AllocError> {
-    match read(heap, valley) {
-        Ok(list) => verdict_of(heap, &list, marks),
-        Err(_) => Ok(0),
-    }
+// The length of the line that the marks have wrong, if one is.
+pub fn wrong_length(heap: Global, valley: &[u8], marks: &[u8]) -> Result<Option<u32>, Fault> {
+    let list = read(heap, valley).map_err(|refusal| refusal.fault)?;
+    let wrong = judge(heap, &list, marks)?;
+    Ok(wrong.map(|edge| edge.weight))
 }
 
-fn verdict_of(heap: Global, list: &EdgeList, marks: &[u8]) -> Result<u32, AllocError> {
-    match judge(heap, list, marks)? {
-        Some(e) => Ok(e.weight),
-        None => Ok(0),
-    }
-}
-
-// `before`, then `count` times the same line, then `after`.
+// `before`, then `count` times the same line, then `after`. (A `repeat` would make a copy more.)
 pub fn long_text(
     heap: Global,
     before: &[u8],
@@ -58,14 +47,15 @@ mod tests {
         rt: &(impl Abort + AllocGlobal),
         text: &[u8],
         line: usize,
-        code: u8,
+        fault: Fault,
     ) -> Result<(), Fail> {
-        assert_eq!(rt; fault_of(rt.alloc(), text), (line, code));
+        assert_eq!(rt; refusal_of(rt.alloc(), text), Some(Refusal { line, fault }));
         Ok(())
     }
 
     fn accepts(rt: &(impl Abort + AllocGlobal), text: &[u8]) -> Result<(), Fail> {
-        refuses(rt, text, 0, 0)
+        assert_eq!(rt; refusal_of(rt.alloc(), text), None);
+        Ok(())
     }
 
     #[test]
@@ -78,22 +68,36 @@ mod tests {
 
     #[test]
     fn bad_beginnings(rt: HostRuntime) -> Result<(), Fail> {
-        refuses(&rt, b"", 1, 2)?;
-        refuses(&rt, b"# nothing\n\n", 3, 2)?;
-        refuses(&rt, b"line 0 1 5\nhouses 2\n", 1, 2)?;
-        refuses(&rt, b"houses 2\nline 0 1 5\nhouses 2\n", 3, 3)?;
-        refuses(&rt, b"houses 0\n", 1, 4)?;
-        refuses(&rt, b"\nhouses 257\n", 2, 4)?;
-        refuses(&rt, b"houses 99999999999999999999999\n", 1, 4)?;
-        refuses(&rt, b"houses -3\n", 1, 1)?;
-        refuses(&rt, b"houses 3 4\n", 1, 1)?;
-        refuses(&rt, b"houses\n", 1, 1)?;
-        refuses(&rt, b"Houses 3\n", 1, 1)?;
-        refuses(&rt, b"\xff\xfe\n", 1, 1)
+        refuses(&rt, b"", 1, Fault::NoCount)?;
+        refuses(&rt, b"# nothing\n\n", 3, Fault::NoCount)?;
+        refuses(&rt, b"line 0 1 5\nhouses 2\n", 1, Fault::NoCount)?;
+        refuses(
+            &rt,
+            b"houses 2\nline 0 1 5\nhouses 2\n",
+            3,
+            Fault::CountTwice,
+        )?;
+        refuses(&rt, b"houses 0\n", 1, Fault::CountOutOfRange)?;
+        refuses(&rt, b"\nhouses 257\n", 2, Fault::CountOutOfRange)?;
+        refuses(
+            &rt,
+            b"houses 99999999999999999999999\n",
+            1,
+            Fault::CountOutOfRange,
+        )?;
+        refuses(&rt, b"houses -3\n", 1, Fault::NotUnderstood)?;
+        refuses(&rt, b"houses 3 4\n", 1, Fault::NotUnderstood)?;
+        refuses(&rt, b"houses\n", 1, Fault::NotUnderstood)?;
+        refuses(&rt, b"Houses 3\n", 1, Fault::NotUnderstood)?;
+        refuses(&rt, b"\xff\xfe\n", 1, Fault::NotUnderstood)
     }
 
     // A line behind `houses 3`.
-    fn refuses_line(rt: &(impl Abort + AllocGlobal), line: &[u8], code: u8) -> Result<(), Fail> {
+    fn refuses_line(
+        rt: &(impl Abort + AllocGlobal),
+        line: &[u8],
+        fault: Fault,
+    ) -> Result<(), Fail> {
         let text = long_text(
             rt.alloc(),
             b"houses 3\nline 0 1 5\n",
@@ -101,38 +105,51 @@ mod tests {
             1,
             b"\nline 1 2 9\n",
         )?;
-        refuses(rt, &text, 3, code)
+        refuses(rt, &text, 3, fault)
     }
 
     #[test]
     fn bad_lines(rt: HostRuntime) -> Result<(), Fail> {
-        refuses_line(&rt, b"line 0 1 6", 8)?;
-        refuses_line(&rt, b"line 1 0 6", 8)?;
-        refuses_line(&rt, b"line 2 2 6", 6)?;
-        refuses_line(&rt, b"line 0 2 5", 9)?;
-        refuses_line(&rt, b"line 0 2 0", 7)?;
-        refuses_line(&rt, b"line 0 2 1000001", 7)?;
-        refuses_line(&rt, b"line 0 2 18446744073709551621", 7)?;
-        refuses_line(&rt, b"line 0 3 6", 5)?;
-        refuses_line(&rt, b"line 340282366920938463463374607431768211456 2 6", 5)?;
-        refuses_line(&rt, b"line 0 2 6x", 1)?;
-        refuses_line(&rt, b"line 0 two 6", 1)?;
-        refuses_line(&rt, b"line 0 2 +6", 1)?;
-        refuses_line(&rt, b"line 0 2", 1)?;
-        refuses_line(&rt, b"line 0 2 6 7", 1)?;
-        refuses_line(&rt, b"lines 0 2 6", 1)
+        refuses_line(&rt, b"line 0 1 6", Fault::EdgeTwice)?;
+        refuses_line(&rt, b"line 1 0 6", Fault::EdgeTwice)?;
+        refuses_line(&rt, b"line 2 2 6", Fault::OwnNode)?;
+        refuses_line(&rt, b"line 0 2 5", Fault::WeightTwice)?;
+        refuses_line(&rt, b"line 0 2 0", Fault::WeightOutOfRange)?;
+        refuses_line(&rt, b"line 0 2 1000001", Fault::WeightOutOfRange)?;
+        refuses_line(
+            &rt,
+            b"line 0 2 18446744073709551621",
+            Fault::WeightOutOfRange,
+        )?;
+        refuses_line(&rt, b"line 0 3 6", Fault::NodeOutOfRange)?;
+        refuses_line(
+            &rt,
+            b"line 340282366920938463463374607431768211456 2 6",
+            Fault::NodeOutOfRange,
+        )?;
+        refuses_line(&rt, b"line 0 2 6x", Fault::NotUnderstood)?;
+        refuses_line(&rt, b"line 0 two 6", Fault::NotUnderstood)?;
+        refuses_line(&rt, b"line 0 2 +6", Fault::NotUnderstood)?;
+        refuses_line(&rt, b"line 0 2", Fault::NotUnderstood)?;
+        refuses_line(&rt, b"line 0 2 6 7", Fault::NotUnderstood)?;
+        refuses_line(&rt, b"lines 0 2 6", Fault::NotUnderstood)
     }
 
     #[test]
     fn bad_wholes(rt: HostRuntime) -> Result<(), Fail> {
-        refuses(&rt, b"houses 2\n", 1, 11)?;
-        refuses(&rt, b"houses 4\nline 0 1 5\nline 2 3 6\n", 3, 11)?;
-        refuses(&rt, b"houses 256\nline 255 256 5\n", 2, 5)?;
+        refuses(&rt, b"houses 2\n", 1, Fault::Apart)?;
+        refuses(&rt, b"houses 4\nline 0 1 5\nline 2 3 6\n", 3, Fault::Apart)?;
+        refuses(
+            &rt,
+            b"houses 256\nline 255 256 5\n",
+            2,
+            Fault::NodeOutOfRange,
+        )?;
         let sixteen: &[u8] =
             b"houses 18\nline 0 1 1\nline 0 2 2\nline 0 3 3\nline 0 4 4\nline 0 5 5\nline 0 6 6\nline 0 7 7\nline 0 8 8\nline 9 0 9\nline 10 0 10\nline 11 0 11\nline 12 0 12\nline 13 0 13\nline 14 0 14\nline 15 0 15\nline 16 0 16\nline 1 17 17\n";
         accepts(&rt, sixteen)?;
         let more = long_text(rt.alloc(), sixteen, b"line 17 0 18\n", 1, b"")?;
-        refuses(&rt, &more, 19, 10)
+        refuses(&rt, &more, 19, Fault::TooManyEdges)
     }
 
     #[test]
@@ -146,17 +163,21 @@ mod tests {
         )?;
         accepts(&rt, &good)?;
         let late = long_text(rt.alloc(), HOUSES, b"\n", 300_000, b"nothing\n")?;
-        refuses(&rt, &late, 300_002, 1)?;
+        refuses(&rt, &late, 300_002, Fault::NotUnderstood)?;
         let wide = long_text(rt.alloc(), HOUSES, b"x", 1_000_000, b"\n")?;
-        refuses(&rt, &wide, 2, 1)?;
+        refuses(&rt, &wide, 2, Fault::NotUnderstood)?;
         let again = long_text(rt.alloc(), HOUSES, b"line 0 1 5\n", 100_000, b"")?;
-        refuses(&rt, &again, 3, 8)
+        refuses(&rt, &again, 3, Fault::EdgeTwice)
     }
 
     const TRIANGLE: &[u8] = b"houses 3\nline 0 1 1\nline 1 2 2\nline 0 2 3\n";
 
-    fn wrong(rt: &(impl Abort + AllocGlobal), marks: &[u8], length: u32) -> Result<(), Fail> {
-        assert_eq!(rt; wrong_length(rt.alloc(), TRIANGLE, marks)?, length);
+    fn wrong(
+        rt: &(impl Abort + AllocGlobal),
+        marks: &[u8],
+        length: Option<u32>,
+    ) -> Result<(), Fail> {
+        assert_eq!(rt; wrong_length(rt.alloc(), TRIANGLE, marks), Ok(length));
         Ok(())
     }
 
@@ -164,20 +185,20 @@ mod tests {
     fn verdicts(rt: HostRuntime) -> Result<(), Fail> {
         let right: &[u8] =
             b"mark 0 1 laid\nmark 1 0 laid\nmark 1 2 laid\nmark 2 1 laid\nmark 0 2 ruled\nmark 2 0 ruled\ndone 9\n";
-        wrong(&rt, right, 0)?;
-        wrong(&rt, b"", 1)?;
+        wrong(&rt, right, None)?;
+        wrong(&rt, b"", Some(1))?;
         wrong(
             &rt,
             b"mark 0 1 laid\nmark 1 0 laid\nmark 1 2 laid\nmark 0 2 ruled\nmark 2 0 ruled\n",
-            2,
+            Some(2),
         )?;
         wrong(
             &rt,
             b"mark 0 1 laid\nmark 1 0 laid\nmark 1 2 laid\nmark 2 1 laid\nmark 0 2 ruled\nmark 2 0 laid\n",
-            3,
+            Some(3),
         )?;
         let later = long_text(rt.alloc(), right, b"mark 2 1 ruled\n", 1, b"")?;
-        wrong(&rt, &later, 2)?;
+        wrong(&rt, &later, Some(2))?;
         let others = long_text(
             rt.alloc(),
             right,
@@ -185,6 +206,6 @@ mod tests {
             1,
             b"mark 1 0 laid",
         )?;
-        wrong(&rt, &others, 0)
+        wrong(&rt, &others, None)
     }
 }

@@ -1,67 +1,54 @@
 -- Bytes and their digits, one byte after the other.
-use Rattle.std.proofs.Common.{◌≡◌, ℕ, ◌+◌, ◌*◌, ◌/◌, ◌%◌, ◌<◌, ◌≤◌, List, [], ◌∷◌, ◌++◌, length, get_or, take, drop, Some, None, Option, sym, refl, ap, ◌∙◌, append_assoc, append-nil, arith}
-use Rattle.std.specs.List.{flat_map}
-use Rattle.std.proofs.lemmas.List.{flat_map_more, take_more, take_all, drop_more, drop_all}
-use Rattle.housebox.specs.Hex.{digit_of, digits_of, hex_of, value_of, both_of, byte_of, one_more, bytes_of, Bytes, HexReturns, HexOnly}
+use Rattle.std.proofs.Common.{◌≡◌, ℕ, zero, suc, ◌+◌, ◌*◌, ◌/◌, ◌%◌, ◌<◌, min, ◌==◌, Bool, true, ◌&&◌, inl, inr, List, [], ◌∷◌, ◌++◌, length, get_or, Some, None, Option, sym, refl, ap, ◌∙◌, arith}
+use Rattle.std.proofs.lemmas.Bool.{and_parts, cases_lt, eqb-true}
+use Rattle.hex.specs.Hex.{encode_lower, encode_with, lower_digits}
+use Rattle.housebox.specs.Both.{both}
+use Rattle.housebox.specs.Hex.{digit_of, digits_of, hex_of, value_of, byte_of, pair_of, bytes_of, Bytes, HexReturns, HexOnly}
 
--- ENCODING: one byte more
-pub encoded_more : (bs : List ℕ) (i : ℕ) (t u v : List ℕ) → i < length bs → t ≡ hex_of (take i bs) → u ≡ t ++ digit_of (get_or bs i 0 / 16) ∷ [] →
-    v ≡ u ++ digit_of (get_or bs i 0 % 16) ∷ [] → v ≡ hex_of (take (i + 1) bs)
-encoded_more bs i t u v h e p q =
-    q ∙ (ap (λ x. x ++ digit_of (get_or bs i 0 % 16) ∷ []) p ∙ (append_assoc t (digit_of (get_or bs i 0 / 16) ∷ []) (digit_of (get_or bs i 0 % 16) ∷ []) ∙
-    (ap (λ x. x ++ digits_of (get_or bs i 0)) e ∙ (flat_map_more digits_of [] (take i bs) (get_or bs i 0) ∙ ap (λ x. flat_map digits_of x) (sym (take_more bs i 0 h))))))
+-- ENCODING: the sixteen digits are those of the kit's crate
+same_digits : ℕ → Bool
+same_digits zero = true
+same_digits (suc n) = (get_or lower_digits n 0 == digit_of n) && same_digits n
 
-pub encoded_all : (bs : List ℕ) (i : ℕ) (t : List ℕ) → length bs ≤ i → t ≡ hex_of (take i bs) → t ≡ hex_of bs
-encoded_all bs i t h e = e ∙ ap (λ x. flat_map digits_of x) (take_all i bs h)
+same_below : (n k : ℕ) → same_digits n ≡ true → k < n → get_or lower_digits k 0 ≡ digit_of k
+unfolding same_digits
+same_below zero k h lt = absurd (omega arith)
+same_below (suc n) k h lt =
+    let parts = and_parts (get_or lower_digits n 0 == digit_of n) (same_digits n) h in
+    elim (cases_lt k n) [
+      | inl below ↦ same_below n k parts.1 below
+      | inr top ↦ (let e : k ≡ n = omega arith in rw e (eqb-true (get_or lower_digits n 0) (digit_of n) parts.0))
+    ]
 
--- DECODING: what is there already, and then the bytes of the rest
-abbrev pub behind : List ℕ → Option (List ℕ) → Option (List ℕ)
-behind xs None = None
-behind xs (Some ys) = Some (xs ++ ys)
+same_digit : (k : ℕ) → k < 16 → get_or lower_digits k 0 ≡ digit_of k
+unfolding same_digits
+same_digit k h = same_below 16 k refl h
 
-behind_more : (xs : List ℕ) (b : ℕ) (o : Option (List ℕ)) → behind xs (one_more (Some b) o) ≡ behind (xs ++ b ∷ []) o
-behind_more xs b None = refl
-behind_more xs b (Some ys) = ap (λ z. Some z) (sym (append_assoc xs (b ∷ []) ys))
+pub lower_hex : (bs : List ℕ) → ((k : ℕ) → k < length bs → get_or bs k 0 < 256) → encode_lower bs ≡ hex_of bs
+unfolding encode_with
+lower_hex [] h = refl
+lower_hex (b ∷ bs) h =
+    let byte : b < 256 = h 0 (omega arith) in
+    let high : b / 16 < 16 = omega arith in
+    let low : b % 16 < 16 = omega arith in
+    rw (same_digit (b / 16) high, same_digit (b % 16) low, lower_hex bs (λ k lt. h (suc k) (omega arith))) refl
 
-behind_none : (o : Option (List ℕ)) → behind [] o ≡ o
-behind_none None = refl
-behind_none (Some ys) = refl
-
-pub decoded_start : (t xs : List ℕ) → xs ≡ [] → behind xs (bytes_of (drop (2 * 0) t)) ≡ bytes_of t
-decoded_start t xs e = ap (λ z. behind z (bytes_of t)) e ∙ behind_none (bytes_of t)
-
--- the next two digits
-split : (t : List ℕ) (i : ℕ) → 2 * i + 1 < length t → drop (2 * i) t ≡ get_or t (2 * i) 0 ∷ get_or t (2 * i + 1) 0 ∷ drop (2 * (i + 1)) t
-split t i h =
-    let a : 2 * i < length t = omega arith in
-    let e : 2 * i + 1 + 1 ≡ 2 * (i + 1) = omega arith in
-    drop_more t (2 * i) 0 a ∙ (ap (λ z. get_or t (2 * i) 0 ∷ z) (drop_more t (2 * i + 1) 0 h) ∙ ap (λ n. get_or t (2 * i) 0 ∷ get_or t (2 * i + 1) 0 ∷ drop n t) e)
-
-turn : (t : List ℕ) (i : ℕ) → 2 * i + 1 < length t → bytes_of (drop (2 * i) t) ≡ one_more (byte_of (get_or t (2 * i) 0) (get_or t (2 * i + 1) 0)) (bytes_of (drop (2 * (i + 1)) t))
+-- DECODING: the next two digits, or the last one
+two_digits : (ds rest : List ℕ) → length ds ≡ min 2 (length (ds ++ rest)) → 0 < length (ds ++ rest) → bytes_of (ds ++ rest) ≡ both (λ x xs. x ∷ xs) (pair_of ds) (bytes_of rest)
 unfolding bytes_of
-turn t i h = ap (λ z. bytes_of z) (split t i h)
+two_digits [] rest e h = absurd (omega arith)
+two_digits (a ∷ []) [] e h = refl
+two_digits (a ∷ []) (b ∷ rest) e h = absurd (omega arith)
+two_digits (a ∷ b ∷ []) rest e h = refl
+two_digits (a ∷ b ∷ c ∷ ds) rest e h = absurd (omega arith)
 
-pub decoded_more : (t : List ℕ) (i b : ℕ) (xs : List ℕ) → 2 * i + 1 < length t → Some b ≡ byte_of (get_or t (2 * i) 0) (get_or t (2 * i + 1) 0) →
-    behind xs (bytes_of (drop (2 * i) t)) ≡ bytes_of t → behind (xs ++ b ∷ []) (bytes_of (drop (2 * (i + 1)) t)) ≡ bytes_of t
-decoded_more t i b xs h e ih =
-    sym (behind_more xs b (bytes_of (drop (2 * (i + 1)) t))) ∙ (ap (λ o. behind xs (one_more o (bytes_of (drop (2 * (i + 1)) t)))) e ∙ (ap (λ o. behind xs o) (sym (turn t i h)) ∙ ih))
+pub next_digits : (before ds rest : List ℕ) → before ≡ ds ++ rest → length ds ≡ min 2 (length before) → 0 < length before → bytes_of before ≡ both (λ x xs. x ∷ xs) (pair_of ds) (bytes_of rest)
+next_digits before ds rest s e h = rw s (two_digits ds rest (rw s at e) (rw s at h))
 
-pub decoded_none : (t : List ℕ) (i : ℕ) (xs : List ℕ) → 2 * i + 1 < length t → None ≡ byte_of (get_or t (2 * i) 0) (get_or t (2 * i + 1) 0) →
-    behind xs (bytes_of (drop (2 * i) t)) ≡ bytes_of t → None ≡ bytes_of t
-decoded_none t i xs h e ih = ap (λ o. behind xs (one_more o (bytes_of (drop (2 * (i + 1)) t)))) e ∙ (ap (λ o. behind xs o) (sym (turn t i h)) ∙ ih)
-
-pub decoded_all : (t : List ℕ) (i : ℕ) (xs : List ℕ) → length t ≤ 2 * i → behind xs (bytes_of (drop (2 * i) t)) ≡ bytes_of t → Some xs ≡ bytes_of t
+pub no_digits : (rest : List ℕ) → length rest ≡ 0 → bytes_of rest ≡ Some []
 unfolding bytes_of
-decoded_all t i xs h ih = ap (λ z. Some z) (sym (append-nil xs)) ∙ (ap (λ z. behind xs (bytes_of z)) (sym (drop_all (2 * i) t h)) ∙ ih)
-
--- a digit is left over
-pub decoded_odd : (t : List ℕ) (i : ℕ) (xs : List ℕ) → 2 * i + 1 ≡ length t → behind xs (bytes_of (drop (2 * i) t)) ≡ bytes_of t → None ≡ bytes_of t
-unfolding bytes_of
-decoded_odd t i xs h ih =
-    let a : 2 * i < length t = omega arith in
-    let d : length t ≤ 2 * i + 1 = omega arith in
-    let one : drop (2 * i) t ≡ get_or t (2 * i) 0 ∷ [] = drop_more t (2 * i) 0 a ∙ ap (λ z. get_or t (2 * i) 0 ∷ z) (drop_all (2 * i + 1) t d) in
-    ap (λ z. behind xs (bytes_of z)) (sym one) ∙ ih
+no_digits [] h = refl
+no_digits (a ∷ rest) h = absurd (omega arith)
 
 -- THE LAWS
 value_digit : (n : ℕ) → n < 16 → value_of (digit_of n) ≡ Some n
@@ -82,9 +69,9 @@ returns_all (b ∷ bs) h = rw (byte_digits b h.0, returns_all bs h.1) refl
 digit_value : (d n : ℕ) → value_of d ≡ Some n → (d ≡ digit_of n) × (n < 16)
 digit_value d n e = grind arith
 
-digits_both : (a b n : ℕ) (o p : Option ℕ) → value_of a ≡ o → value_of b ≡ p → both_of o p ≡ Some n → digits_of n ≡ a ∷ b ∷ []
-digits_both a b n None p e f g = absurd (let z : ◌≡◌ {A = ℕ} 0 1 = cc in omega arith)
-digits_both a b n (Some h) None e f g = absurd (let z : ◌≡◌ {A = ℕ} 0 1 = cc in omega arith)
+digits_both : (a b n : ℕ) (o p : Option ℕ) → value_of a ≡ o → value_of b ≡ p → both (λ h l. 16 * h + l) o p ≡ Some n → digits_of n ≡ a ∷ b ∷ []
+digits_both a b n None p e f g = cc
+digits_both a b n (Some h) None e f g = cc
 digits_both a b n (Some h) (Some l) e f g =
     let high = digit_value a h e in
     let low = digit_value b l f in
@@ -93,9 +80,9 @@ digits_both a b n (Some h) (Some l) e f g =
     let r : n % 16 ≡ l = omega arith in
     rw (q, r, high.0, low.0) refl
 
-only_more : (o : Option ℕ) (p : Option (List ℕ)) (a b : ℕ) (rest bs : List ℕ) → byte_of a b ≡ o → ((ys : List ℕ) → p ≡ Some ys → rest ≡ hex_of ys) → one_more o p ≡ Some bs → a ∷ b ∷ rest ≡ hex_of bs
-only_more None p a b rest bs e ih g = absurd (let z : ◌≡◌ {A = ℕ} 0 1 = cc in omega arith)
-only_more (Some n) None a b rest bs e ih g = absurd (let z : ◌≡◌ {A = ℕ} 0 1 = cc in omega arith)
+only_more : (o : Option ℕ) (p : Option (List ℕ)) (a b : ℕ) (rest bs : List ℕ) → byte_of a b ≡ o → ((ys : List ℕ) → p ≡ Some ys → rest ≡ hex_of ys) → both (λ x xs. x ∷ xs) o p ≡ Some bs → a ∷ b ∷ rest ≡ hex_of bs
+only_more None p a b rest bs e ih g = cc
+only_more (Some n) None a b rest bs e ih g = cc
 only_more (Some n) (Some ys) a b rest bs e ih g =
     let whole : n ∷ ys ≡ bs = cc in
     let digits = digits_both a b n (value_of a) (value_of b) refl refl e in
@@ -104,5 +91,5 @@ only_more (Some n) (Some ys) a b rest bs e ih g =
 pub only_all : HexOnly
 unfolding bytes_of
 only_all [] bs e = let n : [] ≡ bs = cc in ap (λ z. hex_of z) n
-only_all (a ∷ []) bs e = absurd (let z : ◌≡◌ {A = ℕ} 0 1 = cc in omega arith)
+only_all (a ∷ []) bs e = cc
 only_all (a ∷ b ∷ rest) bs e = only_more (byte_of a b) (bytes_of rest) a b rest bs refl (only_all rest) e

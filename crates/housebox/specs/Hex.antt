@@ -1,6 +1,7 @@
 -- Hexadecimal text: lower case, two digits a byte.
 use Rattle.std.specs.Prelude.{◌≡◌, ℕ, ◌+◌, ◌-◌, ◌*◌, ◌/◌, ◌%◌, ◌<◌, cond, ◌&&◌, List, [], ◌∷◌, Some, None, Option, nat_le, nat_lt}
 use Rattle.std.specs.List.{flat_map}
+use Rattle.housebox.specs.Both.{both}
 
 -- 0 to 9, then a to f
 abbrev pub digit_of : ℕ → ℕ
@@ -18,25 +19,22 @@ hex_of bs = flat_map digits_of bs
 abbrev pub value_of : ℕ → Option ℕ
 value_of d = cond (nat_le 48 d && nat_le d 57) (Some (d - 48)) (cond (nat_le 97 d && nat_le d 102) (Some (d - 87)) None)
 
-abbrev pub both_of : Option ℕ → Option ℕ → Option ℕ
-both_of None low = None
-both_of (Some h) None = None
-both_of (Some h) (Some l) = Some (16 * h + l)
-
 -- the byte of two digits
 abbrev pub byte_of : ℕ → ℕ → Option ℕ
-byte_of high low = both_of (value_of high) (value_of low)
+byte_of high low = both (λ h l. 16 * h + l) (value_of high) (value_of low)
 
-abbrev pub one_more : Option ℕ → Option (List ℕ) → Option (List ℕ)
-one_more None bs = None
-one_more (Some b) None = None
-one_more (Some b) (Some bs) = Some (b ∷ bs)
+-- the byte of just two digits
+abbrev pub pair_of : List ℕ → Option ℕ
+pair_of [] = None
+pair_of (a ∷ []) = None
+pair_of (a ∷ b ∷ []) = byte_of a b
+pair_of (a ∷ b ∷ c ∷ rest) = None
 
 -- the bytes of a text, if it has whole bytes and nothing else
 unfoldable pub bytes_of : List ℕ → Option (List ℕ)
 bytes_of [] = Some []
 bytes_of (a ∷ []) = None
-bytes_of (a ∷ b ∷ rest) = one_more (byte_of a b) (bytes_of rest)
+bytes_of (a ∷ b ∷ rest) = both (λ x xs. x ∷ xs) (byte_of a b) (bytes_of rest)
 
 -- each is a byte
 unfoldable pub Bytes : List ℕ → Type 0

@@ -1,5 +1,5 @@
 -- What a command comes to.
-use Rattle.std.specs.Prelude.{ℕ, List, vec_items}
+use Rattle.std.specs.Prelude.{ℕ, List, string_bytes}
 use Rattle.message.specs.declared.refusals.Refusal.TheVariants.{Malformed}
 use Rattle.station.specs.State.{State}
 use Rattle.station.specs.Events.{Did, did_of, on_wake, on_packet, on_acknowledgement}
@@ -17,7 +17,7 @@ pub data Replied : Type 0 where
 -- what the code holds
 abbrev pub replied_by : Reply → Replied
 replied_by Silence = silence
-replied_by (Lines text) = lines (vec_items text)
+replied_by (Lines text) = lines (string_bytes text)
 replied_by (Event o) = event (did_of o)
 
 -- `wake`, `packet` and `answer` are events; what is not understood is refused by 1

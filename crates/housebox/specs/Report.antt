@@ -2,26 +2,15 @@
 use Rattle.std.specs.Prelude.{ℕ, zero, suc, cond, List, [], ◌++◌, length, codes, decimal, nat_lt, slice_index_or}
 use Rattle.std.specs.List.{flat_map}
 use Rattle.message.specs.declared.refusals.Refusal.{Refusal}
-use Rattle.message.specs.declared.refusals.Refusal.TheVariants.{Malformed, NotNext, NotAwaited, NoSuchEdge, OutOfPlace, ForeignPage, UnsoundGraph}
-use Rattle.message.specs.Refusals.{number_of}
+use Rattle.message.specs.Refusals.{number_of, words_of}
 use Rattle.message.specs.Bytes.{packet_bytes, acknowledgement_bytes}
-use Rattle.node.specs.declared.state.Mark.{Mark}
-use Rattle.node.specs.declared.state.Mark.TheVariants.{Basic, Branch, Rejected}
+use Rattle.graph.specs.declared.mark.Mark.{Mark}
+use Rattle.graph.specs.declared.mark.Mark.TheVariants.{Basic, Branch, Rejected}
 use Rattle.station.specs.declared.outcome.Transmission.{Transmission}
 use Rattle.station.specs.declared.outcome.Transmission.TheVariants.{Packet, Acknowledgement}
 use Rattle.station.specs.State.{State, link_at}
 use Rattle.station.specs.Events.{Did}
 use Rattle.housebox.specs.Hex.{hex_of}
-
--- what a person is told of a refusal
-abbrev pub words_of : Refusal → List ℕ
-words_of Malformed = codes "not understood"
-words_of NotNext = codes "not the next number"
-words_of NotAwaited = codes "no answer that is waited for"
-words_of NoSuchEdge = codes "no such line"
-words_of OutOfPlace = codes "cannot come now"
-words_of ForeignPage = codes "no page of this house and its lines"
-words_of UnsoundGraph = codes "an unsound valley"
 
 -- a word, a blank, a number and a blank
 abbrev pub numbered : List ℕ → ℕ → List ℕ
@@ -30,6 +19,10 @@ numbered w n = w ++ (codes " " ++ (decimal n ++ codes " "))
 -- the same, and then the rest of the line
 abbrev pub line_of : List ℕ → ℕ → List ℕ → List ℕ
 line_of w n rest = numbered w n ++ (rest ++ codes "\n")
+
+-- the number of a refusal, and its words
+abbrev pub refused_text : Refusal → List ℕ
+refused_text r = numbered (codes "refused") (number_of r) ++ words_of r
 
 abbrev pub refusal_line : Refusal → List ℕ
 refusal_line r = line_of (codes "refused") (number_of r) (words_of r)
@@ -46,6 +39,9 @@ abbrev pub lamp_words : Mark → List ℕ
 lamp_words Basic = codes "wait"
 lamp_words Branch = codes "dig"
 lamp_words Rejected = codes "don't"
+
+abbrev pub lamp_text : ℕ → Mark → List ℕ
+lamp_text j m = numbered (codes "lamp") j ++ lamp_words m
 
 abbrev pub lamp_line : ℕ → Mark → List ℕ
 lamp_line j m = line_of (codes "lamp") j (lamp_words m)

@@ -1,6 +1,6 @@
 // The words behind the program's name: `I J:L J:L ..`.
-ghost use Rattle.std.specs.Prelude.{◌≡◌, ◌≤◌, map, length, IfOk, vec_items, string_bytes};
-ghost use Rattle.housebox.specs.Arguments.{before_colon, numbers_of, neighbour_of, neighbours_of, given_by, given_of};
+ghost use Rattle.std.specs.Prelude.{◌≡◌, map, position, IfOk, vec_items, string_bytes};
+ghost use Rattle.housebox.specs.Arguments.{is_colon, neighbour_of, neighbours_of, given_by, given_of};
 ghost use Rattle.std.specs.Option.{option_map};
 
 use graph::edge::Neighbour;
@@ -14,53 +14,36 @@ pub struct Arguments {
     pub neighbours: Vec<Neighbour>,
 }
 
-// How many bytes stand before the first colon.
-fn before_colon(word: &[u8]) -> usize
-    ensures value { result ≡ before_colon word.now }
-    ensures bound { result ≤ length word.now }
+// Where the first colon stands. No `split_once`: that is of a `&str`, and a word is any bytes.
+fn colon_of(word: &[u8]) -> Option<usize>
+    ensures { result ≡ position is_colon word.now }
 {
-    for (i, b) in word.iter().enumerate() {
-        if *b == b':' {
-            return i;
-        }
-    }
-    word.len()
-}
-
-// A neighbour's number and a length.
-fn numbers(node: &[u8], weight: &[u8]) -> Option<Neighbour>
-    ensures { result ≡ numbers_of node.now weight.now }
-{
-    match (number(node), number(weight)) {
-        (Some(node), Some(weight)) => Some(Neighbour {
-            node: node as usize,
-            weight,
-        }),
-        _ => None,
-    }
+    word.iter().position(|b| *b == b':')
 }
 
 // `J:L`: a neighbour and the length of the line to it.
 pub fn neighbour_of(word: &[u8]) -> Option<Neighbour>
     ensures { result ≡ neighbour_of word.now }
 {
-    let colon = before_colon(word);
-    if colon >= word.len() {
-        return None;
-    }
-    numbers(&word[0..colon], &word[colon + 1..])
+    let colon = colon_of(word)?;
+    let (node, weight) = (&word[..colon], &word[colon + 1..]);
+    Some(Neighbour {
+        node: number(node)? as usize,
+        weight: number(weight)?,
+    })
 }
 
-// All of them, in order; none where one word is no `J:L`.
+// All of them, in order; none where one word is no `J:L`. A `for`, since of a `collect` into an `Option` the proof lacks
+// that it fails where an item fails.
 pub fn neighbours_of(heap: Global, words: &[String]) -> Result<Option<Vec<Neighbour>>, AllocError>
     ensures { IfOk result (λ o. option_map vec_items o ≡ neighbours_of (map string_bytes words.now)) }
 {
     let mut neighbours = Vec::new(heap);
     for word in words {
-        match neighbour_of(word.as_bytes()) {
-            Some(neighbour) => neighbours.push(neighbour)?,
-            None => return Ok(None),
-        }
+        let Some(neighbour) = neighbour_of(word.as_bytes()) else {
+            return Ok(None);
+        };
+        neighbours.push(neighbour)?;
     }
     Ok(Some(neighbours))
 }
@@ -76,11 +59,8 @@ pub fn arguments_of(
     let Some(own) = number(first) else {
         return Ok(None);
     };
-    match neighbours_of(heap, others)? {
-        Some(neighbours) => Ok(Some(Arguments {
-            number: own as usize,
-            neighbours,
-        })),
-        None => Ok(None),
-    }
+    Ok(neighbours_of(heap, others)?.map(|neighbours| Arguments {
+        number: own as usize,
+        neighbours,
+    }))
 }

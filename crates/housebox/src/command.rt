@@ -1,10 +1,10 @@
 // What one line of the input says.
-ghost use Rattle.housebox.specs.Command.{delivered_by, said_by, carried_of, bare_of, said_of};
+ghost use Rattle.housebox.specs.Command.{delivered_by, said_by, carried_of, said_of};
 ghost use Rattle.std.specs.Option.{option_map};
 ghost use Rattle.std.specs.Prelude.{◌≡◌, IfOk};
 
-use crate::hex::decode;
-use graph::text::{Cursor, is, number};
+use crate::hexadecimal::decode;
+use graph::text::{Cursor, number};
 use std::alloc::{AllocError, Global};
 
 // Bytes, and the neighbour that they come from.
@@ -31,27 +31,13 @@ fn carried(heap: Global, cursor: &mut Cursor<'_>) -> Result<Option<Delivery>, Al
 {
     let from = number(cursor.word());
     let bytes = decode(heap, cursor.word())?;
-    let end = cursor.word();
-    match (from, bytes) {
-        (Some(from), Some(bytes)) if end.is_empty() => Ok(Some(Delivery {
-            from: from as usize,
-            bytes,
-        })),
-        _ => Ok(None),
-    }
-}
-
-// A word alone on its line.
-fn bare(word: &[u8], end: &[u8]) -> Command
-    ensures { said_by result ≡ bare_of word.now end.now }
-{
-    if end.is_empty() && is(word, b"wake") {
-        return Command::Wake;
-    }
-    if end.is_empty() && is(word, b"show") {
-        return Command::Show;
-    }
-    Command::Unknown
+    let (Some(from), Some(bytes), []) = (from, bytes, cursor.word()) else {
+        return Ok(None);
+    };
+    Ok(Some(Delivery {
+        from: from as usize,
+        bytes,
+    }))
 }
 
 // What a line says.
@@ -60,20 +46,12 @@ pub fn command_of(heap: Global, line: &[u8]) -> Result<Command, AllocError>
 {
     let mut cursor = Cursor::new(line);
     let word = cursor.word();
-    if word.is_empty() || word[0] == b'#' {
-        return Ok(Command::Nothing);
+    match word {
+        [] | [b'#', ..] => Ok(Command::Nothing),
+        b"packet" => Ok(carried(heap, &mut cursor)?.map_or(Command::Unknown, Command::Packet)),
+        b"answer" => Ok(carried(heap, &mut cursor)?.map_or(Command::Unknown, Command::Answer)),
+        b"wake" if cursor.word().is_empty() => Ok(Command::Wake),
+        b"show" if cursor.word().is_empty() => Ok(Command::Show),
+        _ => Ok(Command::Unknown),
     }
-    if is(word, b"packet") {
-        return match carried(heap, &mut cursor)? {
-            Some(delivery) => Ok(Command::Packet(delivery)),
-            None => Ok(Command::Unknown),
-        };
-    }
-    if is(word, b"answer") {
-        return match carried(heap, &mut cursor)? {
-            Some(delivery) => Ok(Command::Answer(delivery)),
-            None => Ok(Command::Unknown),
-        };
-    }
-    Ok(bare(word, cursor.word()))
 }

@@ -3,22 +3,11 @@ use crate::arguments::{Arguments, arguments_of};
 use crate::command::command_of;
 use crate::lamp;
 use crate::reply::{Reply, reply_to};
-use crate::report::Untold;
-use crate::step::{Step, step_of};
-use anyhow::anyhow;
-use graph::text::Cursor;
-use page::{Unread, Unwritten};
+use crate::step::{Step, Unstepped, step_of};
+use crate::trouble::Trouble;
 use station::{Outcome, Station};
 use std::io;
 use std::io::Write;
-
-const NO_MEMORY: &str = "box: out of memory";
-
-const WRONG_WORDS: &str = "box: the words have to be a number I, and then J:L for each line";
-
-const FOREIGN: &str = "refused 6: `lamp` is no page of this house and these lines";
-
-const FULL: &str = "box: the page would not fit";
 
 #[derive(Drop)]
 pub struct House {
@@ -27,42 +16,22 @@ pub struct House {
 }
 
 // Standard output is not buffered, so this is out when it returns.
-fn say(rt: &HostRuntime, text: &[u8]) -> io::Result<()> {
-    rt.stdout().write_all(text)
-}
-
-// A line of this crate's own words about what the system said.
-fn unkept(rt: &HostRuntime, e: io::Error) -> anyhow::Result<anyhow::Error> {
-    Ok(anyhow!(format!(in rt.alloc(); "box: `lamp`: {e}")?))
-}
-
-fn keep(rt: &HostRuntime, page: &[u8]) -> anyhow::Result<()> {
-    match lamp::keep(rt, page) {
-        Ok(()) => Ok(()),
-        Err(e) => Err(unkept(rt, e)?),
-    }
+fn say(rt: &HostRuntime, text: &str) -> io::Result<()> {
+    rt.stdout().write_all(text.as_bytes())
 }
 
 // A house fresh from the box, which is written at once.
-fn fresh(rt: &HostRuntime, station: Station) -> anyhow::Result<House> {
-    let page = match page::write(rt.alloc(), &station) {
-        Ok(page) => page,
-        Err(Unwritten::Memory) => return Err(anyhow!(NO_MEMORY)),
-        Err(Unwritten::Full) => return Err(anyhow!(FULL)),
-    };
-    keep(rt, &page)?;
+fn fresh(rt: &HostRuntime, station: Station) -> Result<House, Trouble> {
+    let page = page::write(rt.alloc(), &station)?;
+    lamp::keep(rt, &page).map_err(Trouble::Lamp)?;
     Ok(House { station, page })
 }
 
 // A house as its page says.
-fn resumed(rt: &HostRuntime, arguments: &Arguments, page: Vec<u8>) -> anyhow::Result<House> {
-    let station = match page::read(rt.alloc(), &page) {
-        Ok(station) => station,
-        Err(Unread::Memory) => return Err(anyhow!(NO_MEMORY)),
-        Err(Unread::Foreign) => return Err(anyhow!(FOREIGN)),
-    };
+fn resumed(rt: &HostRuntime, arguments: &Arguments, page: Vec<u8>) -> Result<House, Trouble> {
+    let station = page::read(rt.alloc(), &page)?;
     if !page::serves(&station, arguments.number, &arguments.neighbours) {
-        return Err(anyhow!(FOREIGN));
+        return Err(Trouble::Foreign);
     }
     Ok(House { station, page })
 }
@@ -71,28 +40,20 @@ impl House {
     // The house that these words speak of.
     pub fn open(rt: &HostRuntime, first: &[u8], others: &[String]) -> anyhow::Result<House> {
         let heap = rt.alloc();
-        let Some(arguments) = arguments_of(heap, first, others)? else {
-            return Err(anyhow!(WRONG_WORDS));
-        };
-        let station = match Station::new(heap, arguments.number, &arguments.neighbours) {
-            Ok(station) => station,
-            Err(fault) => {
-                let reason = fault.reason();
-                return Err(anyhow!(format!(in heap; "box: {reason}")?));
-            }
-        };
-        match lamp::open(rt) {
-            Ok(Some(page)) => resumed(rt, &arguments, page),
-            Ok(None) => fresh(rt, station),
-            Err(e) => Err(unkept(rt, e)?),
-        }
+        let arguments = arguments_of(heap, first, others)?.ok_or(Trouble::WrongWords)?;
+        let station = Station::new(heap, arguments.number, &arguments.neighbours).map_err(
+            Trouble::NoStation,
+        )?;
+        Ok(match lamp::open(rt).map_err(Trouble::Lamp)? {
+            Some(page) => resumed(rt, &arguments, page)?,
+            None => fresh(rt, station)?,
+        })
     }
 
     // What one line of the input says is done.
     pub fn obey(self, rt: &HostRuntime, line: &[u8]) -> anyhow::Result<House> {
         let heap = rt.alloc();
-        let command = command_of(heap, Cursor::new(line).line())?;
-        match reply_to(heap, &self.station, command)? {
+        match reply_to(heap, &self.station, command_of(heap, line)?)? {
             Reply::Silence => Ok(self),
             Reply::Lines(text) => {
                 say(rt, &text)?;
@@ -104,17 +65,19 @@ impl House {
 
     // The page first, then the words. A page that stands there already is not written again, which saves the sync.
     fn settle(self, rt: &HostRuntime, outcome: Outcome) -> anyhow::Result<House> {
-        let step = match step_of(rt.alloc(), outcome) {
-            Ok(Some(step)) => step,
-            Ok(None) => return Ok(self),
-            Err(Untold::Memory) => return Err(anyhow!(NO_MEMORY)),
-            Err(Untold::Unfit) => return Err(anyhow!(FULL)),
+        let Step {
+            station,
+            page,
+            words,
+        } = match step_of(rt.alloc(), outcome) {
+            // An event whose page would not fit has no effect.
+            Err(Unstepped::Full) => return Ok(self),
+            stepped => stepped.map_err(Trouble::from)?,
         };
-        if step.page.as_slice() != self.page.as_slice() {
-            keep(rt, &step.page)?;
+        if page.as_slice() != self.page.as_slice() {
+            lamp::keep(rt, &page).map_err(Trouble::Lamp)?;
         }
-        say(rt, &step.words)?;
-        let Step { station, page, .. } = step;
+        say(rt, &words)?;
         Ok(House { station, page })
     }
 }

@@ -18,9 +18,8 @@ fn sync_folder(rt: &HostRuntime) -> io::Result<()> {
 // what is read is told to others, so it has to last first.
 pub fn open(rt: &HostRuntime) -> io::Result<Option<Vec<u8>>> {
     let mut file = match File::open(rt, PAGE) {
-        Ok(file) => file,
         Err(e) if e.kind() == ErrorKind::NotFound => return Ok(None),
-        Err(e) => return Err(e),
+        opened => opened?,
     };
     let mut page = Vec::new(rt.alloc());
     file.read_to_end(&mut page)?;

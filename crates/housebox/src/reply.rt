@@ -5,7 +5,7 @@ ghost use Rattle.station.specs.State.{state_of};
 ghost use Rattle.std.specs.Prelude.{◌≡◌, IfOk};
 
 use crate::command::Command;
-use crate::report::{refused, shown};
+use crate::report::{Refused, shown};
 use message::Refusal;
 use station::{Outcome, Station};
 use std::alloc::{AllocError, Global};
@@ -14,19 +14,19 @@ use std::alloc::{AllocError, Global};
 #[derive(Drop)]
 pub enum Reply {
     Silence,
-    Lines(Vec<u8>),
+    Lines(String),
     Event(Outcome),
 }
 
 pub fn reply_to(heap: Global, station: &Station, command: Command) -> Result<Reply, AllocError>
     ensures { IfOk result (λ a. replied_by a ≡ reply_of (said_by command) (state_of station.now)) }
 {
-    match command {
-        Command::Nothing => Ok(Reply::Silence),
-        Command::Unknown => Ok(Reply::Lines(refused(heap, Refusal::Malformed)?)),
-        Command::Show => Ok(Reply::Lines(shown(heap, station)?)),
-        Command::Wake => Ok(Reply::Event(station.wake(heap)?)),
-        Command::Packet(it) => Ok(Reply::Event(station.receive(heap, it.from, &it.bytes)?)),
-        Command::Answer(it) => Ok(Reply::Event(station.acknowledge(heap, it.from, &it.bytes)?)),
-    }
+    Ok(match command {
+        Command::Nothing => Reply::Silence,
+        Command::Unknown => { Reply::Lines(format!(in heap; "{}\n", Refused(Refusal::Malformed))?) }
+        Command::Show => Reply::Lines(shown(heap, station)?),
+        Command::Wake => Reply::Event(station.wake(heap)?),
+        Command::Packet(it) => Reply::Event(station.receive(heap, it.from, &it.bytes)?),
+        Command::Answer(it) => Reply::Event(station.acknowledge(heap, it.from, &it.bytes)?),
+    })
 }

@@ -1,5 +1,5 @@
 -- One end of a link: what it has still to hand over and what has come, and what becomes of it.
-use Rattle.std.specs.Prelude.{ℕ, ◌+◌, Bool, true, false, cond, not, ◌&&◌, List, [], ◌∷◌, ◌++◌, Some, None, Option, ◌==◌, nat_lt}
+use Rattle.std.specs.Prelude.{◌≡◌, ℕ, ◌+◌, Bool, true, false, cond, not, ◌&&◌, List, [], ◌∷◌, ◌++◌, Some, None, Option, ◌==◌, nat_lt}
 use Rattle.std.specs.VecDeque.{deque_items}
 use Rattle.message.specs.declared.refusals.Refusal.{Refusal}
 use Rattle.message.specs.declared.refusals.Refusal.TheVariants.{NotNext, NotAwaited}
@@ -7,6 +7,8 @@ use Rattle.message.specs.declared.messages.Message.{Message}
 use Rattle.message.specs.declared.packets.Packet.{Packet}
 use Rattle.message.specs.declared.packets.Acknowledgement.{Acknowledgement}
 use Rattle.link.specs.declared.ends.Link.{Link}
+use Rattle.link.specs.declared.unreceived.Unreceived.{Unreceived}
+use Rattle.link.specs.declared.unreceived.Unreceived.TheVariants.{Memory, Refused}
 
 -- acknowledged: the number of the last message that the neighbour is known to have; outbox: what it is not known to have, the oldest first; taken: the number of the last message taken from it; inbox: what of that waits for the node
 pub record End : Type 0 where
@@ -75,6 +77,11 @@ received p e =
 
 abbrev pub why_not_taken : Packet → End → Option Refusal
 why_not_taken p e = cond (is_next e.taken p.number) None (Some NotNext)
+
+-- it was not taken for want of memory, or is refused by what says why
+abbrev pub WhyUnreceived : Unreceived → Packet → End → Type 0
+WhyUnreceived (Memory x) p e = Unit {0}
+WhyUnreceived (Refused r) p e = why_not_taken p e ≡ Some r
 
 -- an acknowledgement is waited for if it is of the oldest message
 abbrev pub is_awaited : Acknowledgement → End → Bool

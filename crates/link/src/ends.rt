@@ -1,11 +1,14 @@
 // What stands at one end of a link, and what it does with packets and acknowledgements.
-ghost use Rattle.std.specs.Prelude.{◌≡◌, ◌<◌, true, false, length, IfOk, MatchResult};
-ghost use Rattle.link.specs.Ends.{end_of, new_end, giving, oldest, received, why_not_taken, settled, why_not_settled, head_of, is_idle, taking, deferring};
+ghost use Rattle.std.specs.Prelude.{◌≡◌, length, MatchResult};
+ghost use Rattle.std.specs.Result.{result_err};
+ghost use Rattle.link.specs.Ends.{end_of, new_end, giving, oldest, received, why_not_taken, WhyUnreceived, settled, why_not_settled, head_of, is_idle, taking, deferring};
 
+use super::unreceived::Unreceived;
 use message::{Acknowledgement, Message, Packet, Refusal};
 use std::alloc::{AllocError, Global};
 use std::collections::VecDeque;
 
+// No model: the page writes and reads these fields, so clauses see them through `end_of`.
 // `acknowledged`: the number of the last message that the neighbour is known to have taken. `outbox`: those that
 // it is not known to have, the oldest first. `taken`: the number of the last message taken from it. `inbox`: those
 // of them that wait for the node.
@@ -18,14 +21,19 @@ pub struct Link {
     pub inbox: VecDeque<Message>,
 }
 
-// The same messages in the same order.
-fn copied(heap: Global, queue: &VecDeque<Message>) -> Result<VecDeque<Message>, AllocError>
-    ensures { IfOk result (λ q. q.items ≡ queue.now.items) }
-{
-    let (front, back) = queue.as_slices();
-    let mut messages = Vec::from_slice(heap, front)?;
-    messages.extend_from_slice(back)?;
-    Ok(VecDeque::from_vec(messages))
+// By hand, since its clause speaks of the end that the copy holds: a derived one speaks of each field.
+impl Clone for Link {
+    ghost is_clone = { λ l m. end_of m ≡ end_of l };
+
+    fn clone(&self) -> Result<Link, AllocError> {
+        Ok(Link {
+            neighbour: self.neighbour,
+            acknowledged: self.acknowledged,
+            outbox: self.outbox.clone()?,
+            taken: self.taken,
+            inbox: self.inbox.clone()?,
+        })
+    }
 }
 
 impl Link {
@@ -40,19 +48,6 @@ impl Link {
             taken: 0,
             inbox: VecDeque::new(heap),
         }
-    }
-
-    // Another one that is the same.
-    pub fn copy(&self, heap: Global) -> Result<Link, AllocError>
-        ensures { IfOk result (λ l. end_of l ≡ end_of self.now) }
-    {
-        Ok(Link {
-            neighbour: self.neighbour,
-            acknowledged: self.acknowledged,
-            outbox: copied(heap, &self.outbox)?,
-            taken: self.taken,
-            inbox: copied(heap, &self.inbox)?,
-        })
     }
 
     // A message more to hand over, behind the others. For want of memory nothing changes.
@@ -80,16 +75,16 @@ impl Link {
         Some(Packet { number, message })
     }
 
-    // A packet comes: its message is taken if its number is the next. For want of memory nothing changes.
-    pub fn receive(&mut self, packet: Packet) -> Result<Option<Refusal>, AllocError>
-        ensures { MatchResult result (λ o. (o ≡ why_not_taken packet (end_of self.old)) × (end_of self.new ≡ received packet (end_of self.old))) (λ _. end_of self.new ≡ end_of self.old) }
+    // A packet comes: its message is taken if its number is the next. Otherwise, and for want of memory, nothing changes.
+    pub fn receive(&mut self, packet: Packet) -> Result<(), Unreceived>
+        ensures { MatchResult result (λ _. (why_not_taken packet (end_of self.old) ≡ None) × (end_of self.new ≡ received packet (end_of self.old))) (λ e. WhyUnreceived e packet (end_of self.old) × (end_of self.new ≡ end_of self.old)) }
     {
         if self.taken.checked_add(1) != Some(packet.number) {
-            return Ok(Some(Refusal::NotNext));
+            return Err(Unreceived::Refused(Refusal::NotNext));
         }
         self.inbox.push_back(packet.message)?;
         self.taken = packet.number;
-        Ok(None)
+        Ok(())
     }
 
     // What a packet is answered by: the last number taken.
@@ -99,19 +94,19 @@ impl Link {
         Acknowledgement { number: self.taken }
     }
 
-    // An acknowledgement comes: the oldest message is done with, if it is the one waited for.
-    pub fn settle(&mut self, acknowledgement: Acknowledgement) -> Option<Refusal>
-        ensures why { result ≡ why_not_settled acknowledgement (end_of self.old) }
+    // An acknowledgement comes: the oldest message is done with, if it is the one waited for. Otherwise nothing changes.
+    pub fn settle(&mut self, acknowledgement: Acknowledgement) -> Result<(), Refusal>
+        ensures why { result_err result ≡ why_not_settled acknowledgement (end_of self.old) }
         ensures after { end_of self.new ≡ settled acknowledgement (end_of self.old) }
     {
         if self.outbox.is_empty()
             || self.acknowledged.checked_add(1) != Some(acknowledgement.number)
         {
-            return Some(Refusal::NotAwaited);
+            return Err(Refusal::NotAwaited);
         }
         let _ = self.outbox.pop_front();
         self.acknowledged = acknowledgement.number;
-        None
+        Ok(())
     }
 
     // The message that waits longest for the node.

@@ -3,6 +3,8 @@
 
 mod ends;
 mod laws;
+mod unreceived;
 
 pub use ends::Link;
 pub use laws::{all_delivered, can_deliver, numbers_end, taken_in_order};
+pub use unreceived::Unreceived;

@@ -1,9 +1,8 @@
 -- Packets and acknowledgements come back from their bytes, and from no others.
-use Rattle.std.proofs.Common.{◌≡◌, ℕ, ◌+◌, ◌-◌, ◌<◌, ◌≤◌, Bool, true, false, cond, ◌&&◌, eqb, leb, List, [], ◌∷◌, ◌++◌, length, get_or, take, drop, Ok, Err, Result, sym, refl, ap, ◌∙◌, arith, lit≤, length-append, length-take, get_or-drop, get_or-take, take-add, rules}
+use Rattle.std.proofs.Common.{◌≡◌, ℕ, ◌+◌, ◌-◌, ◌<◌, ◌≤◌, Bool, true, false, cond, ◌&&◌, eqb, leb, List, [], ◌∷◌, ◌++◌, length, get_or, take, drop, Ok, Err, Result, sym, refl, ap, ◌∙◌, arith, lit≤, length-append, length-take, get_or-drop, get_or-take, take-add, rules, None, Some}
 use lib.Seq.{take-append_seam}
 use Rattle.message.specs.declared.refusals.Refusal.{Refusal}
 use Rattle.message.specs.declared.refusals.Refusal.TheVariants.{Malformed}
-use Rattle.message.specs.declared.messages.Outgoing.TheVariants.{Nothing, Weight}
 use Rattle.message.specs.declared.messages.Phase.TheVariants.{Find, Found}
 use Rattle.message.specs.declared.messages.Message.{Message}
 use Rattle.message.specs.declared.messages.Message.TheVariants.{Connect, Initiate, Test, Accept, Reject, Report, Change}
@@ -21,8 +20,8 @@ message_returns (Initiate l n Found) h f = search rules
 message_returns (Test l n) h f = search rules
 message_returns Accept h f = refl
 message_returns Reject h f = refl
-message_returns (Report Nothing) h f = refl
-message_returns (Report (Weight w)) h f = search rules
+message_returns (Report None) h f = refl
+message_returns (Report (Some w)) h f = search rules
 message_returns Change h f = refl
 
 some_bytes : (m : Message) → 1 ≤ length (message_bytes m)

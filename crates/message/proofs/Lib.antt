@@ -1,3 +1,4 @@
+pub mod Checksum
 mod Words
 mod Decoded
 mod Sealed

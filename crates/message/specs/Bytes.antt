@@ -1,11 +1,9 @@
 -- The bytes of messages, packets and acknowledgements, high byte first.
-use Rattle.std.specs.Prelude.{◌≡◌, ℕ, ◌+◌, ◌-◌, ◌*◌, ◌/◌, ◌%◌, Bool, true, false, cond, not, ◌&&◌, List, [], ◌∷◌, ◌++◌, length, take, drop, Ok, Err, sum, Result, ◌==◌, nat_le, slice_index}
+use Rattle.std.specs.Prelude.{◌≡◌, ℕ, ◌+◌, ◌-◌, ◌*◌, ◌/◌, ◌%◌, Bool, true, false, cond, not, ◌&&◌, List, [], ◌∷◌, ◌++◌, length, take, drop, Ok, Err, sum, Result, ◌==◌, nat_le, slice_index, None, Some, Option}
 use Rattle.message.specs.declared.refusals.Refusal.{Refusal}
 use Rattle.message.specs.declared.refusals.Refusal.TheVariants.{Malformed}
 use Rattle.message.specs.declared.messages.Phase.{Phase}
 use Rattle.message.specs.declared.messages.Phase.TheVariants.{Find, Found}
-use Rattle.message.specs.declared.messages.Outgoing.{Outgoing}
-use Rattle.message.specs.declared.messages.Outgoing.TheVariants.{Nothing, Weight}
 use Rattle.message.specs.declared.messages.Message.{Message}
 use Rattle.message.specs.declared.messages.Message.TheVariants.{Connect, Initiate, Test, Accept, Reject, Report, Change}
 use Rattle.message.specs.declared.messages.Unsent.{Unsent}
@@ -25,10 +23,14 @@ abbrev pub phase_byte : Phase → ℕ
 phase_byte Find = 1
 phase_byte Found = 2
 
+-- the phase that a byte stands for
+abbrev pub phase_of : ℕ → Result Phase Refusal
+phase_of b = cond (b == 1) (Ok Find) (cond (b == 2) (Ok Found) (Err Malformed))
+
 -- no weight is 0, so that 0 can stand for none
-abbrev pub weight_or_zero : Outgoing → ℕ
-weight_or_zero Nothing = 0
-weight_or_zero (Weight w) = w
+abbrev pub weight_or_zero : Option ℕ → ℕ
+weight_or_zero None = 0
+weight_or_zero (Some w) = w
 
 -- a kind, and then the fields
 abbrev pub message_bytes : Message → List ℕ
@@ -44,9 +46,9 @@ message_bytes Change = 7 ∷ []
 abbrev pub low : ℕ → Bool
 low l = nat_le l 8
 
-abbrev pub weighs : Outgoing → Bool
-weighs Nothing = true
-weighs (Weight w) = not (w == 0)
+abbrev pub weighs : Option ℕ → Bool
+weighs None = true
+weighs (Some w) = not (w == 0)
 
 -- each field has its place in the bytes
 abbrev pub fits : Message → Bool
@@ -67,8 +69,8 @@ WhyUnsent Unfit ok = ok ≡ false
 abbrev pub kind : List ℕ → ℕ → ℕ → Bool
 kind bs k n = length bs == n && slice_index bs 0 == k
 
-abbrev pub outgoing_of : ℕ → Outgoing
-outgoing_of n = cond (n == 0) Nothing (Weight n)
+abbrev pub outgoing_of : ℕ → Option ℕ
+outgoing_of n = cond (n == 0) None (Some n)
 
 -- the message that these bytes are, or that they are none
 abbrev pub message_of : List ℕ → Result Message Refusal
@@ -94,6 +96,14 @@ sealed bs = bs ++ ((checksum_of bs / 256 % 256) ∷ (checksum_of bs % 256) ∷ [
 -- do the last two bytes say the sum of those before
 abbrev pub is_sealed : List ℕ → Bool
 is_sealed bs = checksum_of (take (length bs - 2) bs) == slice_index bs (length bs - 2) * 256 + slice_index bs (length bs - 1)
+
+-- are they a kind, a number of four bytes, something more, and the sum of these
+abbrev pub is_frame : ℕ → List ℕ → Bool
+is_frame k bs = (nat_le 7 (length bs) && slice_index bs 0 == k) && is_sealed bs
+
+-- what stands between the number and the sum
+abbrev pub framed : List ℕ → List ℕ
+framed bs = take (length bs - 2 - 5) (drop 5 bs)
 
 abbrev pub packet_bytes : Packet → List ℕ
 packet_bytes p = sealed (71 ∷ (word p.number ++ message_bytes p.message))

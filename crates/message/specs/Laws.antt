@@ -1,9 +1,7 @@
 -- What the bytes promise: what is encoded is decoded to itself, and nothing else is decoded.
-use Rattle.std.specs.Prelude.{◌≡◌, ℕ, ◌^◌, ◌<◌, true, List, length, Ok, slice_index}
+use Rattle.std.specs.Prelude.{◌≡◌, ℕ, ◌^◌, ◌<◌, true, List, length, Ok, slice_index, None, Some, Option}
 use Rattle.message.specs.declared.messages.Message.{Message}
 use Rattle.message.specs.declared.messages.Message.TheVariants.{Connect, Initiate, Test, Accept, Reject, Report, Change}
-use Rattle.message.specs.declared.messages.Outgoing.{Outgoing}
-use Rattle.message.specs.declared.messages.Outgoing.TheVariants.{Nothing, Weight}
 use Rattle.message.specs.declared.packets.Packet.{Packet}
 use Rattle.message.specs.declared.packets.Acknowledgement.{Acknowledgement}
 use Rattle.message.specs.Bytes.{fits, message_bytes, message_of, packet_bytes, packet_of, acknowledgement_bytes, acknowledgement_of}
@@ -12,9 +10,9 @@ use Rattle.message.specs.Bytes.{fits, message_bytes, message_of, packet_bytes, p
 abbrev pub Short : ℕ → Type 0
 Short n = n < 2 ^ 32
 
-abbrev pub ShortOutgoing : Outgoing → Type 0
-ShortOutgoing Nothing = Unit {0}
-ShortOutgoing (Weight w) = Short w
+abbrev pub ShortOutgoing : Option ℕ → Type 0
+ShortOutgoing None = Unit {0}
+ShortOutgoing (Some w) = Short w
 
 -- names and weights have 32 bits, as in the code's own type
 abbrev pub ShortMessage : Message → Type 0

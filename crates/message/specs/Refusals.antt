@@ -1,5 +1,5 @@
--- The numbers of the refusals.
-use Rattle.std.specs.Prelude.{ℕ}
+-- The numbers and the words of the refusals.
+use Rattle.std.specs.Prelude.{ℕ, List, codes}
 use Rattle.message.specs.declared.refusals.Refusal.{Refusal}
 use Rattle.message.specs.declared.refusals.Refusal.TheVariants.{Malformed, NotNext, NotAwaited, NoSuchEdge, OutOfPlace, ForeignPage, UnsoundGraph}
 
@@ -13,3 +13,13 @@ number_of NoSuchEdge = 4
 number_of OutOfPlace = 5
 number_of ForeignPage = 6
 number_of UnsoundGraph = 7
+
+-- what a person is told of a refusal
+abbrev pub words_of : Refusal → List ℕ
+words_of Malformed = codes "not understood"
+words_of NotNext = codes "not the next number"
+words_of NotAwaited = codes "no answer that is waited for"
+words_of NoSuchEdge = codes "no such line"
+words_of OutOfPlace = codes "cannot come now"
+words_of ForeignPage = codes "no page of this house and its lines"
+words_of UnsoundGraph = codes "an unsound valley"

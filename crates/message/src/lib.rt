@@ -12,6 +12,6 @@ pub use laws::{
     acknowledgement_decoded_only, acknowledgement_returns, message_decoded_only, message_returns,
     packet_decoded_only, packet_returns,
 };
-pub use messages::{Message, Outgoing, Phase, TOP_LEVEL, Unsent};
+pub use messages::{Message, Phase, TOP_LEVEL, Unsent};
 pub use packets::{Acknowledgement, Packet, seal};
 pub use refusals::Refusal;

@@ -1,8 +1,10 @@
 // Why something is turned away.
-ghost use Rattle.std.specs.Prelude.{◌≡◌};
-ghost use Rattle.message.specs.Refusals.{number_of};
+ghost use Rattle.std.specs.Prelude.{◌≡◌, Some};
+ghost use Rattle.message.specs.Refusals.{number_of, words_of};
 
-#[derive(Clone, Copy, PartialEq, Eq)]
+use std::fmt;
+
+#[derive(Clone, Copy, Debug, PartialEq, Eq)]
 pub enum Refusal {
     Malformed,
     NotNext,
@@ -15,6 +17,7 @@ pub enum Refusal {
 
 impl Refusal {
     // The number by which people know it; of two the lower one is told.
+    // A rule of the project: each number is a definition that the contract uses.
     pub fn number(self) -> u8
         ensures { result ≡ number_of self }
     {
@@ -27,5 +30,28 @@ impl Refusal {
             Refusal::ForeignPage => 6,
             Refusal::UnsoundGraph => 7,
         }
+    }
+
+    // What a person is told of it.
+    pub fn words(self) -> &'static str
+        ensures { result.now ≡ words_of self }
+    {
+        match self {
+            Refusal::Malformed => "not understood",
+            Refusal::NotNext => "not the next number",
+            Refusal::NotAwaited => "no answer that is waited for",
+            Refusal::NoSuchEdge => "no such line",
+            Refusal::OutOfPlace => "cannot come now",
+            Refusal::ForeignPage => "no page of this house and its lines",
+            Refusal::UnsoundGraph => "an unsound valley",
+        }
+    }
+}
+
+impl fmt::Display for Refusal {
+    ghost output = { λ r. Some (words_of r) };
+
+    fn fmt<W: fmt::Write>(&self, f: &mut fmt::Formatter<W>) -> fmt::Result {
+        f.write_str(self.words())
     }
 }

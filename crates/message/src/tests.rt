@@ -1,5 +1,5 @@
 // Bytes of every kind, and bytes that are refused.
-use super::{Acknowledgement, Message, Outgoing, Packet, Phase, Refusal};
+use super::{Acknowledgement, Message, Packet, Phase, Refusal};
 use std::test::Fail;
 
 #[derive(Clone, Copy)]
@@ -55,15 +55,13 @@ const ROWS: [Row; 9] = [
     },
     Row {
         number: 7,
-        message: Message::Report {
-            best: Outgoing::Nothing,
-        },
+        message: Message::Report { best: None },
         bytes: &[71, 0, 0, 0, 7, 6, 0, 0, 0, 0, 0, 84],
     },
     Row {
         number: 0xffff_ffff,
         message: Message::Report {
-            best: Outgoing::Weight(1_000_000),
+            best: Some(1_000_000),
         },
         bytes: &[71, 255, 255, 255, 255, 6, 0, 15, 66, 64, 4, 218],
     },
@@ -113,11 +111,9 @@ const REFUSED: [&[u8]; 14] = [
 #[test]
 fn what_is_no_packet_is_refused_by_1(rt: HostRuntime) -> Result<(), Fail> {
     for bytes in REFUSED.iter() {
-        match Packet::decode(bytes) {
-            Ok(_) => return Err(Fail::new("a packet")),
-            Err(refusal) => assert!(rt; refusal == Refusal::Malformed && refusal.number() == 1),
-        }
+        assert_eq!(rt; Packet::decode(bytes), Err(Refusal::Malformed));
     }
+    assert_eq!(rt; Refusal::Malformed.number(), 1);
     Ok(())
 }
 
@@ -151,10 +147,8 @@ fn what_does_not_fit_has_no_bytes(rt: HostRuntime) {
         .is_err()
     );
     assert!(rt;
-        Message::Report {
-            best: Outgoing::Weight(0),
-        }
-        .encode(rt.alloc())
-        .is_err()
+        Message::Report { best: Some(0), }
+            .encode(rt.alloc())
+            .is_err()
     );
 }

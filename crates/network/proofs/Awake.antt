@@ -1,12 +1,11 @@
 -- A node that is awake stays awake, and one that is woken is.
 use Rattle.std.proofs.Common.{◌≡◌, ℕ, zero, suc, ◌+◌, true, false, cond, List, Some, None, Option, refl, ap, ◌∙◌, arith}
 use Rattle.message.specs.declared.messages.Phase.TheVariants as phase
-use Rattle.message.specs.declared.messages.Outgoing.TheVariants.{Weight}
 use Rattle.message.specs.declared.messages.Message.{Message}
 use Rattle.message.specs.declared.messages.Message.TheVariants.{Connect, Initiate, Change}
 use Rattle.node.specs.declared.state.Node.{Node}
 use Rattle.node.specs.declared.state.Turn.{Turn}
-use Rattle.node.specs.Rules.{Sends, is_branch, is_sleeping, mark_of, weight_of, silent, sending, turn, lightest, wakes, reports, testing, tests_by, tests, changes, branching, branches_but, onward, joining, rejecting, bettering, heard}
+use Rattle.node.specs.Rules.{Sends, is_branch, is_sleeping, mark_of, weight_of, silent, sending, turn, lightest, wakes, reports, testing, tests_by, tests, changes, branching, branches_but, onward, joining, rejecting, bettering, heard, has_basic}
 use Rattle.node.proofs.Sent.{silent_over}
 use Rattle.node.proofs.Took as took
 use Rattle.node.proofs.Took.{Woke, woke, awake, alone, Took, absorbed, merged, joined_finding, joined_found, accepts, rejects, tests_on, accepted, rejected, heard_child, changed_by, settled, changed}
@@ -20,7 +19,7 @@ reports_up_lem : (n : Node) (s : Sends) → Up n → Up (reports n s).node
 reports_up_lem n s u = grind arith
 
 tests_up : (n : Node) (s : Sends) → Up n → Up (tests n s).node
-tests_up n s u = by (lightest n false 16)
+tests_up n s u = by (lightest n (has_basic n) 16)
   where
     by : (w : Option ℕ) → Up (tests_by w n s).node
     by None = reports_up_lem (testing None n) s u
@@ -37,7 +36,7 @@ took_up n j _ _ (joined_found l f) u = refl
 took_up n j _ _ (accepts l f a b) u = u
 took_up n j _ _ (rejects l f a b c) u = u
 took_up n j _ _ (tests_on l f a b c) u = tests_up (rejecting j n) silent u
-took_up n j _ _ (accepted a) u = reports_up_lem (bettering j (Weight (weight_of n j)) (testing None n)) silent u
+took_up n j _ _ (accepted a) u = reports_up_lem (bettering j (Some (weight_of n j)) (testing None n)) silent u
 took_up n j _ _ (rejected a) u = tests_up (rejecting j n) silent u
 took_up n j _ _ (heard_child w a) u = reports_up_lem (bettering j w (heard n)) silent u
 took_up n j _ _ (changed_by w k v a b c d) u = changes_up k n u

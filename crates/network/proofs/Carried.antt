@@ -3,7 +3,7 @@ use Rattle.std.proofs.Common.{◌≡◌, ℕ, ◌<◌, true, List, map, Ok, sym,
 use Rattle.message.specs.declared.packets.Packet.{Packet}
 use Rattle.message.specs.declared.packets.Acknowledgement.{Acknowledgement}
 use Rattle.message.specs.Bytes.{packet_of, acknowledgement_of}
-use Rattle.node.specs.declared.state.Mark.TheVariants.{Basic, Branch, Rejected}
+use Rattle.graph.specs.declared.mark.Mark.TheVariants.{Basic, Branch, Rejected}
 use Rattle.node.specs.Rules.{mark_of, fresh}
 use Rattle.link.specs.Copper.{Was}
 use Rattle.graph.specs.declared.edge.WeightedEdge.{WeightedEdge}

@@ -3,7 +3,6 @@ use Rattle.std.proofs.Common.{◌≡◌, ℕ, zero, suc, ◌+◌, ◌-◌, ◌<�
 use Rattle.std.proofs.lemmas.Bool.Decides.{eqb_tells}
 use Rattle.std.proofs.lemmas.List.{length-map, get_or-map}
 use Rattle.message.specs.declared.messages.Phase.TheVariants as phase
-use Rattle.message.specs.declared.messages.Outgoing.TheVariants.{Weight}
 use Rattle.message.specs.declared.messages.Message.{Message}
 use Rattle.message.specs.declared.messages.Message.TheVariants.{Connect, Initiate, Test, Accept, Reject, Report, Change}
 use Rattle.message.specs.Laws.{Short, ShortOutgoing, ShortMessage}
@@ -55,7 +54,7 @@ name_after_lem n j _ _ (joined_found l f) = refl
 name_after_lem n j _ _ (accepts l f a b) = refl
 name_after_lem n j _ _ (rejects l f a b c) = refl
 name_after_lem n j _ _ (tests_on l f a b c) = (tests_alike (rejecting j n) silent).name
-name_after_lem n j _ _ (accepted a) = (reports_alike (bettering j (Weight (weight_of n j)) (testing None n)) silent).name
+name_after_lem n j _ _ (accepted a) = (reports_alike (bettering j (Some (weight_of n j)) (testing None n)) silent).name
 name_after_lem n j _ _ (rejected a) = (tests_alike (rejecting j n) silent).name
 name_after_lem n j _ _ (heard_child w a) = (reports_alike (bettering j w (heard n)) silent).name
 name_after_lem n j _ _ (changed_by w k v a b c d) = changes_name k n
@@ -75,7 +74,7 @@ short_best : (n : Node) (j : ℕ) (m : Message) (b : Best) → ShortMessage m �
 short_best n j m b s h (inl e) = rw e h.best
 short_best n j m b s h (inr (inl e)) = rw e tt
 short_best n j m b s h (inr (inr (v, e, inl i))) = rw (e, i) (h.weights j)
-short_best n j m b s h (inr (inr (v, e, inr i))) = let g : ShortMessage (Report (Weight v)) = rw i at s in rw e g
+short_best n j m b s h (inr (inr (v, e, inr i))) = let g : ShortMessage (Report (Some v)) = rw i at s in rw e g
 
 -- a message that is taken leaves a node short, and what it sends then is short
 module _ (n : Node) (j : ℕ) (m : Message) (t : Turn) (h : ShortNode n) (s : ShortMessage m) where

@@ -6,8 +6,8 @@ use Rattle.graph.specs.Edges.{graph_from, neighbours_of, Sound}
 use Rattle.message.specs.declared.packets.Packet.{Packet}
 use Rattle.message.specs.declared.packets.Acknowledgement.{Acknowledgement}
 use Rattle.message.specs.Bytes.{packet_of, acknowledgement_of}
-use Rattle.node.specs.declared.state.Mark.{Mark}
-use Rattle.node.specs.declared.state.Mark.TheVariants.{Basic, Branch, Rejected}
+use Rattle.graph.specs.declared.mark.Mark.{Mark}
+use Rattle.graph.specs.declared.mark.Mark.TheVariants.{Basic, Branch, Rejected}
 use Rattle.node.specs.Rules.{mark_of}
 use Rattle.protocol.specs.Net.{Near, neighbour}
 use Rattle.protocol.specs.Count.{bound}

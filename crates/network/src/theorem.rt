@@ -3,8 +3,6 @@ ghost use Rattle.network.specs.Theorem.{Theorem};
 
 // In every valley, after every list of events that the copper allows: the lamps are right, the end is right and lasts,
 // it can always be reached, the messages are few, and nothing overflows.
-pub fn boxes_together() -> u8
+pub fn boxes_together()
     ensures { Theorem }
-{
-    0
-}
+{}

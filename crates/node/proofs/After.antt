@@ -1,17 +1,15 @@
 -- What a message that is taken can change in a node, and what the node can send.
 use Rattle.std.proofs.Common.{◌≡◌, ℕ, ◌+◌, true, false, cond, ◌⊎◌, List, set, Some, None, Option, sym, refl, ◌∙◌, inl, inr, arith}
 use Rattle.message.specs.declared.messages.Phase.TheVariants as phase
-use Rattle.message.specs.declared.messages.Outgoing.{Outgoing}
-use Rattle.message.specs.declared.messages.Outgoing.TheVariants.{Nothing, Weight}
 use Rattle.message.specs.declared.messages.Message.{Message}
 use Rattle.message.specs.declared.messages.Message.TheVariants.{Connect, Initiate, Test, Accept, Reject, Report, Change}
-use Rattle.node.specs.declared.state.Mark.{Mark}
-use Rattle.node.specs.declared.state.Mark.TheVariants.{Branch, Rejected}
+use Rattle.graph.specs.declared.mark.Mark.{Mark}
+use Rattle.graph.specs.declared.mark.Mark.TheVariants.{Branch, Rejected}
 use Rattle.node.specs.declared.state.Best.{Best}
 use Rattle.node.specs.declared.state.Best.TheVariants as best
 use Rattle.node.specs.declared.state.Node.{Node}
 use Rattle.node.specs.declared.state.Turn.{Turn}
-use Rattle.node.specs.Rules.{Sends, is_basic, is_branch, has_edge, mark_of, weight_of, best_weight, lighter, silent, sending, turn, lightest, reports, testing, tests, changes, branching, branches_but, onward, joining, rejecting, better_by, bettering, heard}
+use Rattle.node.specs.Rules.{Sends, is_basic, is_branch, has_edge, mark_of, weight_of, best_weight, lighter, silent, sending, turn, lightest, reports, testing, tests, changes, branching, branches_but, onward, joining, rejecting, better_by, bettering, heard, has_basic}
 use Rattle.node.specs.Laws.{best_edge, level_after}
 use Rattle.node.proofs.Lightest.{lightest_basic}
 use Rattle.node.proofs.Forms.{Alike, reports_alike, reports_testing, tests_alike, tests_testing}
@@ -25,7 +23,7 @@ MarksAfter n j ms =
 
 -- the best: as it was, none, or over the message's edge, by its own weight or by that which is reported
 abbrev pub BestAfter : Node → ℕ → Message → Best → Type 0
-BestAfter n j m b = (b ≡ n.best) ⊎ (b ≡ best.Nothing) ⊎ ((w : ℕ) × (b ≡ best.Over j w) × ((w ≡ weight_of n j) ⊎ (m ≡ Report (Weight w))))
+BestAfter n j m b = (b ≡ n.best) ⊎ (b ≡ best.Nothing) ⊎ ((w : ℕ) × (b ≡ best.Over j w) × ((w ≡ weight_of n j) ⊎ (m ≡ Report (Some w))))
 
 -- the edge that is tested: as it was, none, or one that is there
 abbrev pub TestingAfter : Node → Option ℕ → Type 0
@@ -43,10 +41,10 @@ pub record After (n : Node) (j : ℕ) (m : Message) (o : Node) : Type 0 where
 rejecting_marks : (n : Node) (j : ℕ) → MarksAfter n j (rejecting j n).marks
 rejecting_marks n j = grind arith
 
-better : (n : Node) (j : ℕ) (m : Message) (w : Outgoing) → ((v : ℕ) → w ≡ Weight v → (v ≡ weight_of n j) ⊎ (m ≡ Report (Weight v))) → BestAfter n j m (better_by j w n.best)
-better n j m Nothing h = inl refl
-better n j m (Weight v) h =
-    elim (lighter (Weight v) (best_weight n.best)) as (λ b. BestAfter n j m (cond b (best.Over j v) n.best)) [ true ↦ inr (inr (v, refl, h v refl)) | false ↦ inl refl ]
+better : (n : Node) (j : ℕ) (m : Message) (w : Option ℕ) → ((v : ℕ) → w ≡ Some v → (v ≡ weight_of n j) ⊎ (m ≡ Report (Some v))) → BestAfter n j m (better_by j w n.best)
+better n j m None h = inl refl
+better n j m (Some v) h =
+    elim (lighter (Some v) (best_weight n.best)) as (λ b. BestAfter n j m (cond b (best.Over j v) n.best)) [ true ↦ inr (inr (v, refl, h v refl)) | false ↦ inl refl ]
 
 module _ (n : Node) (j : ℕ) where
   -- testing or reporting on top
@@ -54,12 +52,12 @@ module _ (n : Node) (j : ℕ) where
   alike m b o x a t =
       record { edges = a.edges ∙ x.edges; weights = a.weights ∙ x.weights; level = a.level ∙ x.level; parent = rw a.parent x.parent; testing = t; marks = rw a.marks x.marks; best = rw a.best x.best }
 
-  testing_after : (o : Node) (w : Option ℕ) → o.edges ≡ n.edges → lightest o false 16 ≡ w → TestingAfter n w
+  testing_after : (o : Node) (w : Option ℕ) → o.edges ≡ n.edges → lightest o (has_basic o) 16 ≡ w → TestingAfter n w
   testing_after o None h e = inr (inl refl)
   testing_after o (Some k) h e = let p = (lightest_basic o k e).0 in inr (inr (k, refl, rw h at p))
 
   tested : (m : Message) (b : Node) (s : Sends) → After n j m b → After n j m (tests b s).node
-  tested m b s x = alike m b (tests b s).node x (tests_alike b s) (rw (tests_testing b s) (testing_after b (lightest b false 16) x.edges refl))
+  tested m b s x = alike m b (tests b s).node x (tests_alike b s) (rw (tests_testing b s) (testing_after b (lightest b (has_basic b) 16) x.edges refl))
 
   reported : (m : Message) (b : Node) (s : Sends) → After n j m b → After n j m (reports b s).node
   reported m b s x = alike m b (reports b s).node x (reports_alike b s) (rw (reports_testing b s) x.testing)
@@ -88,8 +86,8 @@ module _ (n : Node) (j : ℕ) where
   after _ _ (rejects l f a b c) = rejecting_after (Test l f) refl
   after _ _ (tests_on l f a b c) = tested (Test l f) (rejecting j n) silent (rejecting_after (Test l f) refl)
   after _ _ (accepted a) =
-      reported Accept (bettering j (Weight (weight_of n j)) (testing None n)) silent
-      (record { edges = refl; weights = refl; level = refl; parent = inl refl; testing = inr (inl refl); marks = inl refl; best = better n j Accept (Weight (weight_of n j)) (λ v e. inl (cc)) })
+      reported Accept (bettering j (Some (weight_of n j)) (testing None n)) silent
+      (record { edges = refl; weights = refl; level = refl; parent = inl refl; testing = inr (inl refl); marks = inl refl; best = better n j Accept (Some (weight_of n j)) (λ v e. inl (cc)) })
   after _ _ (rejected a) = tested Reject (rejecting j n) silent (rejecting_after Reject refl)
   after _ _ (heard_child w a) =
       reported (Report w) (bettering j w (heard n)) silent

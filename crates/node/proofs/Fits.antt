@@ -1,6 +1,5 @@
 -- What is sent: tests of the lightest basic edge alone, initiates that go on, and nothing that has no bytes.
 use Rattle.std.proofs.Common.{◌≡◌, ℕ, ◌≤◌, true, Some, refl, subst, inl, inr, arith}
-use Rattle.message.specs.declared.messages.Outgoing.TheVariants.{Weight}
 use Rattle.message.specs.declared.messages.Message.{Message}
 use Rattle.message.specs.declared.messages.Message.TheVariants.{Connect, Initiate, Test, Accept, Reject, Report, Change}
 use Rattle.message.specs.Bytes.{fits, weighs}
@@ -56,7 +55,7 @@ some_best : (n : Node) (j : ℕ) (m : Message) (b : Best) → fits m ≡ true �
 some_best n j m b f w h (inl e) = rw e h
 some_best n j m b f w h (inr (inl e)) = rw e refl
 some_best n j m b f w h (inr (inr (v, e, inl i))) = rw e (grind arith)
-some_best n j m b f w h (inr (inr (v, e, inr i))) = let g : fits (Report (Weight v)) ≡ true = rw i at f in rw e g
+some_best n j m b f w h (inr (inr (v, e, inr i))) = let g : fits (Report (Some v)) ≡ true = rw i at f in rw e g
 
 -- the edges and their weights stay
 weights_stay : (n o : Node) → o.edges ≡ n.edges → o.weights ≡ n.weights → ((k : ℕ) → has_edge n k ≡ true → 1 ≤ weight_of n k) → (k : ℕ) → has_edge o k ≡ true → 1 ≤ weight_of o k

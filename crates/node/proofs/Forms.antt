@@ -4,7 +4,7 @@ use Rattle.message.specs.declared.messages.Message.{Message}
 use Rattle.message.specs.declared.messages.Message.TheVariants.{Connect, Test, Report, Change}
 use Rattle.node.specs.declared.state.Node.{Node}
 use Rattle.node.specs.declared.state.Turn.{Turn}
-use Rattle.node.specs.Rules.{Sends, is_branch, mark_of, best_weight, silent, sending, sending_to, turn, lightest, reports, testing, tests_by, tests, branching, changes}
+use Rattle.node.specs.Rules.{Sends, is_branch, mark_of, best_weight, silent, sending, sending_to, turn, lightest, reports, testing, tests_by, tests, branching, changes, has_basic}
 use Rattle.node.specs.Laws.{sent_over, LightestBasic}
 use Rattle.node.proofs.Lightest.{lightest_basic}
 use Rattle.node.proofs.Sent.{sent_only, one_sent}
@@ -52,7 +52,7 @@ Asked n s t k x =
     (sent_over s k ≡ Some x) ⊎ (LightestBasic t.node k × (t.node.testing ≡ Some k) × (x ≡ Test n.level n.name)) ⊎
     ((n.parent ≡ Some k) × (x ≡ Report (best_weight n.best)))
 
-asked : (n : Node) (s : Sends) (w : Option ℕ) → lightest n false 16 ≡ w → (k : ℕ) (x : Message) → sent_over (tests_by w n s).sends k ≡ Some x → Asked n s (tests_by w n s) k x
+asked : (n : Node) (s : Sends) (w : Option ℕ) → lightest n (has_basic n) 16 ≡ w → (k : ℕ) (x : Message) → sent_over (tests_by w n s).sends k ≡ Some x → Asked n s (tests_by w n s) k x
 asked n s None e k x h = elim (reports_told (testing None n) s k x h) [ inl a ↦ inl a | inr b ↦ inr (inr b) ]
 asked n s (Some i) e k x h =
     elim (sent_only s i k (Test n.level n.name) x h) [ inl a ↦ inr (inl (lightest_basic n k (grind arith), grind arith, grind arith)) | inr b ↦ inl b ]
@@ -65,16 +65,16 @@ tests_by_alike n s (Some i) = (record { edges = refl; weights = refl; marks = re
 
 module _ (n : Node) (s : Sends) where
   pub tests_alike : Alike n (tests n s).node
-  tests_alike = (tests_by_alike n s (lightest n false 16)).0
+  tests_alike = (tests_by_alike n s (lightest n (has_basic n) 16)).0
 
-  pub tests_testing : (tests n s).node.testing ≡ lightest n false 16
-  tests_testing = (tests_by_alike n s (lightest n false 16)).1
+  pub tests_testing : (tests n s).node.testing ≡ lightest n (has_basic n) 16
+  tests_testing = (tests_by_alike n s (lightest n (has_basic n) 16)).1
 
   pub tests_length : length (tests n s).sends ≡ length s
-  tests_length = (tests_by_alike n s (lightest n false 16)).2
+  tests_length = (tests_by_alike n s (lightest n (has_basic n) 16)).2
 
   pub tests_asked : (k : ℕ) (x : Message) → sent_over (tests n s).sends k ≡ Some x → Asked n s (tests n s) k x
-  tests_asked = asked n s (lightest n false 16) refl
+  tests_asked = asked n s (lightest n (has_basic n) 16) refl
 
 changed : (b : Bool) (i : ℕ) (n o : Node) (k : ℕ) (x : Message) → sent_over (cond b (turn n (sending i Change silent)) (turn o (sending i (Connect n.level) silent))).sends k ≡ Some x →
     (k ≡ i) × ((x ≡ Change) ⊎ (x ≡ Connect n.level))

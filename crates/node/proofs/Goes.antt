@@ -2,7 +2,6 @@
 use Rattle.std.proofs.Common.{◌≡◌, ℕ, ◌+◌, ◌<◌, Bool, true, false, cond, length, Some, None, Option, sym, refl, ◌∙◌, subst, inl, inr, arith, length-set}
 use Rattle.message.specs.declared.messages.Phase.{Phase}
 use Rattle.message.specs.declared.messages.Phase.TheVariants as phase
-use Rattle.message.specs.declared.messages.Outgoing.TheVariants.{Weight}
 use Rattle.message.specs.declared.messages.Message.{Message}
 use Rattle.message.specs.declared.messages.Message.TheVariants.{Connect, Initiate, Test, Accept, Reject, Report, Change}
 use Rattle.node.specs.declared.state.Best.TheVariants as best
@@ -76,7 +75,7 @@ module _ (n : Node) (j : ℕ) where
   goes m t (accepts l f a b) k x h = goes_one n j m t k j Accept x accepting h
   goes m t (rejects l f a b c) k x h = goes_one n j m t k j Reject x denying h
   goes m t (tests_on l f a b c) k x h = goes_tests n j m (rejecting j n) silent k (goes_none n j m t k) x h
-  goes m t (accepted a) k x h = goes_reports n j m (bettering j (Weight (weight_of n j)) (testing None n)) silent k (goes_none n j m t k) x h
+  goes m t (accepted a) k x h = goes_reports n j m (bettering j (Some (weight_of n j)) (testing None n)) silent k (goes_none n j m t k) x h
   goes m t (rejected a) k x h = goes_tests n j m (rejecting j n) silent k (goes_none n j m t k) x h
   goes m t (heard_child w a) k x h = goes_reports n j m (bettering j w (heard n)) silent k (goes_none n j m t k) x h
   goes m t (changed_by w i v a b c d) k x h = goes_changes n j m t k i v d x h
@@ -93,7 +92,7 @@ module _ (n : Node) (j : ℕ) where
   goes_length m t (accepts l f a b) = length-set silent j (Some Accept)
   goes_length m t (rejects l f a b c) = length-set silent j (Some Reject)
   goes_length m t (tests_on l f a b c) = tests_length (rejecting j n) silent
-  goes_length m t (accepted a) = reports_length (bettering j (Weight (weight_of n j)) (testing None n)) silent
+  goes_length m t (accepted a) = reports_length (bettering j (Some (weight_of n j)) (testing None n)) silent
   goes_length m t (rejected a) = tests_length (rejecting j n) silent
   goes_length m t (heard_child w a) = reports_length (bettering j w (heard n)) silent
   goes_length m t (changed_by w i v a b c d) = changes_length i n

@@ -1,5 +1,4 @@
 -- Facts about a node; those of a public module serve other crates too.
-mod Places
 pub mod Lightest
 pub mod Sent
 pub mod Took

@@ -1,10 +1,10 @@
 -- What stays: the edges and their weights, branches and decided marks, and the level but for initiates.
 use Rattle.std.proofs.Common.{◌≡◌, ℕ, Bool, true, false, cond, List, get_or, set, Some, None, Option, refl, inl, inr, arith}
-use Rattle.node.specs.declared.state.Mark.{Mark}
-use Rattle.node.specs.declared.state.Mark.TheVariants.{Basic, Branch, Rejected}
+use Rattle.graph.specs.declared.mark.Mark.{Mark}
+use Rattle.graph.specs.declared.mark.Mark.TheVariants.{Basic, Branch, Rejected}
 use Rattle.node.specs.declared.state.Node.{Node}
 use Rattle.node.specs.declared.state.Turn.{Turn}
-use Rattle.node.specs.Rules.{is_basic, is_branch, is_sleeping, silent, turn, mark_of, lightest, woken_by}
+use Rattle.node.specs.Rules.{is_basic, is_branch, is_sleeping, silent, turn, mark_of, lightest, woken_by, has_edge}
 use Rattle.node.specs.Laws.{Steps, MarksStay, LevelKept}
 use Rattle.node.proofs.Sent.{after_set}
 use Rattle.node.proofs.Took.{Woke, awake, alone, connects, came, by_waking, by_message, stepped}
@@ -40,7 +40,7 @@ marks_stay n t k s = elim (stepped n t s) [
 ]
 
 pub level_kept : LevelKept
-level_kept n = (woken (is_sleeping n.status) (lightest n true 16), λ t j m e. (after n j m t (came n j m t e).did).level)
+level_kept n = (woken (is_sleeping n.status) (lightest n (has_edge n) 16), λ t j m e. (after n j m t (came n j m t e).did).level)
   where
     woken : (b : Bool) (w : Option ℕ) → (cond b (woken_by w n) (turn n silent)).node.level ≡ cond b 0 n.level
     woken true None = refl

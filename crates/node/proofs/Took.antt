@@ -3,8 +3,6 @@ use Rattle.std.proofs.Common.{◌≡◌, ℕ, ◌+◌, ◌<◌, ◌≤◌, Bool,
 use Rattle.message.specs.declared.refusals.Refusal.{Refusal}
 use Rattle.message.specs.declared.refusals.Refusal.TheVariants.{NoSuchEdge, OutOfPlace}
 use Rattle.message.specs.declared.messages.Phase.TheVariants as phase
-use Rattle.message.specs.declared.messages.Outgoing.{Outgoing}
-use Rattle.message.specs.declared.messages.Outgoing.TheVariants.{Weight}
 use Rattle.message.specs.declared.messages.Message.{Message}
 use Rattle.message.specs.declared.messages.Message.TheVariants.{Connect, Initiate, Test, Accept, Reject, Report, Change}
 use Rattle.message.specs.Bytes.{fits}
@@ -20,8 +18,8 @@ use Rattle.node.specs.Laws.{Steps, UntakenUnchanged}
 -- what waking comes to
 pub data Woke (n : Node) : Turn → Type 0 where
   awake : is_sleeping n.status ≡ false → Woke n (turn n silent)
-  alone : is_sleeping n.status ≡ true → lightest n true 16 ≡ None → Woke n (woken_by None n)
-  connects : (k : ℕ) → is_sleeping n.status ≡ true → lightest n true 16 ≡ Some k → Woke n (woken_by (Some k) n)
+  alone : is_sleeping n.status ≡ true → lightest n (has_edge n) 16 ≡ None → Woke n (woken_by None n)
+  connects : (k : ℕ) → is_sleeping n.status ≡ true → lightest n (has_edge n) 16 ≡ Some k → Woke n (woken_by (Some k) n)
 
 -- what the message that came over j comes to, if it is taken
 pub data Took (n : Node) (j : ℕ) : Message → Turn → Type 0 where
@@ -32,11 +30,11 @@ pub data Took (n : Node) (j : ℕ) : Message → Turn → Type 0 where
   accepts : (l f : ℕ) → l ≤ n.level → eqb f n.name ≡ false → Took n j (Test l f) (turn n (sending j Accept silent))
   rejects : (l f : ℕ) → l ≤ n.level → f ≡ n.name → is_edge n.testing j ≡ false → Took n j (Test l f) (turn (rejecting j n) (sending j Reject silent))
   tests_on : (l f : ℕ) → l ≤ n.level → f ≡ n.name → is_edge n.testing j ≡ true → Took n j (Test l f) (tests (rejecting j n) silent)
-  accepted : is_edge n.testing j ≡ true → Took n j Accept (reports (bettering j (Weight (weight_of n j)) (testing None n)) silent)
+  accepted : is_edge n.testing j ≡ true → Took n j Accept (reports (bettering j (Some (weight_of n j)) (testing None n)) silent)
   rejected : is_edge n.testing j ≡ true → Took n j Reject (tests (rejecting j n) silent)
-  heard_child : (w : Outgoing) → is_edge n.parent j ≡ false → Took n j (Report w) (reports (bettering j w (heard n)) silent)
-  changed_by : (w : Outgoing) (k v : ℕ) → is_edge n.parent j ≡ true → is_find n.status ≡ false → lighter (best_weight n.best) w ≡ true → n.best ≡ best.Over k v → Took n j (Report w) (changes k n)
-  settled : (w : Outgoing) → is_edge n.parent j ≡ true → is_find n.status ≡ false → lighter (best_weight n.best) w ≡ false → Took n j (Report w) (turn (halting w n) silent)
+  heard_child : (w : Option ℕ) → is_edge n.parent j ≡ false → Took n j (Report w) (reports (bettering j w (heard n)) silent)
+  changed_by : (w : Option ℕ) (k v : ℕ) → is_edge n.parent j ≡ true → is_find n.status ≡ false → lighter (best_weight n.best) w ≡ true → n.best ≡ best.Over k v → Took n j (Report w) (changes k n)
+  settled : (w : Option ℕ) → is_edge n.parent j ≡ true → is_find n.status ≡ false → lighter (best_weight n.best) w ≡ false → Took n j (Report w) (turn (halting w n) silent)
   changed : (k v : ℕ) → n.best ≡ best.Over k v → Took n j Change (changes k n)
 
 -- why a message has to wait
@@ -44,7 +42,7 @@ pub data Waits (n : Node) (j : ℕ) : Message → Type 0 where
   sleeps : (m : Message) → is_sleeping n.status ≡ true → Waits n j m
   not_lower : (l : ℕ) → n.level ≤ l → is_basic (mark_of n j) ≡ true → Waits n j (Connect l)
   higher : (l f : ℕ) → n.level < l → Waits n j (Test l f)
-  finding : (w : Outgoing) → is_edge n.parent j ≡ true → is_find n.status ≡ true → Waits n j (Report w)
+  finding : (w : Option ℕ) → is_edge n.parent j ≡ true → is_find n.status ≡ true → Waits n j (Report w)
 
 -- why a message is turned away
 pub data Turned (n : Node) (j : ℕ) : Message → Refusal → Type 0 where
@@ -90,10 +88,10 @@ abbrev OnRules : Node → ℕ → Message → Taking → Type 0
 OnRules n j m = On (Took n j m) (Waits n j m) (Turned n j m) n
 
 -- what is lighter than something is there
-something : (w : Outgoing) (b : Best) → lighter (best_weight b) w ≡ true → b ≡ best.Nothing → ⊥
+something : (w : Option ℕ) (b : Best) → lighter (best_weight b) w ≡ true → b ≡ best.Nothing → ⊥
 something w b h e = grind arith
 
-on_decides : (n : Node) (j : ℕ) (w : Outgoing) → is_edge n.parent j ≡ true → is_find n.status ≡ false → OnRules n j (Report w) (decides w n)
+on_decides : (n : Node) (j : ℕ) (w : Option ℕ) → is_edge n.parent j ≡ true → is_find n.status ≡ false → OnRules n j (Report w) (decides w n)
 on_decides n j w p s =
     on_cond (lighter (best_weight n.best) w) (λ h. on_change n.best (λ k v e. changed_by w k v p s h e) (λ e. absurd (something w n.best h e)))
     (λ h. taken (settled w p s h))
@@ -148,13 +146,13 @@ why_refused n o j m r e = at_refused (subst (OnMessage n j m) e (on_takes n j m)
 pub untaken_unchanged : UntakenUnchanged
 untaken_unchanged n o j m = (λ e. (why_deferred n o j m e).0, λ r e. (why_refused n o j m r e).0)
 
-woken : (n : Node) (b : Bool) (w : Option ℕ) → is_sleeping n.status ≡ b → lightest n true 16 ≡ w → Woke n (cond b (woken_by w n) (turn n silent))
+woken : (n : Node) (b : Bool) (w : Option ℕ) → is_sleeping n.status ≡ b → lightest n (has_edge n) 16 ≡ w → Woke n (cond b (woken_by w n) (turn n silent))
 woken n true None a e = alone a e
 woken n true (Some k) a e = connects k a e
 woken n false w a e = awake a
 
 pub woke : (n : Node) (t : Turn) → wakes n ≡ t → Woke n t
-woke n t e = subst (Woke n) e (woken n (is_sleeping n.status) (lightest n true 16) refl refl)
+woke n t e = subst (Woke n) e (woken n (is_sleeping n.status) (lightest n (has_edge n) 16) refl refl)
 
 -- a step is a waking, or a message that was taken
 pub data Stepped (n : Node) (t : Turn) : Type 0 where

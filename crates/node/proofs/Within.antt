@@ -4,8 +4,8 @@ use native.Mathlib.Decide.{dec_lt}
 use lib.ListN.{length-replicate}
 use Rattle.std.proofs.lemmas.List.{get_or-replicate, get_or_past, get_or_append_left}
 use Rattle.message.specs.declared.messages.Message.{Message}
-use Rattle.node.specs.declared.state.Mark.{Mark}
-use Rattle.node.specs.declared.state.Mark.TheVariants.{Basic, Branch, Rejected}
+use Rattle.graph.specs.declared.mark.Mark.{Mark}
+use Rattle.graph.specs.declared.mark.Mark.TheVariants.{Basic, Branch, Rejected}
 use Rattle.node.specs.declared.state.Best.{Best}
 use Rattle.node.specs.declared.state.Node.{Node}
 use Rattle.node.specs.declared.state.Turn.{Turn}

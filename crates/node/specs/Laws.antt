@@ -2,7 +2,6 @@
 use Rattle.std.specs.Prelude.{◌≡◌, ℕ, ◌<◌, ◌≤◌, true, false, cond, ◌⊎◌, List, length, Some, None, Option, slice_index, slice_index_or}
 use Rattle.message.specs.declared.refusals.Refusal.{Refusal}
 use Rattle.message.specs.declared.messages.Phase.{Phase}
-use Rattle.message.specs.declared.messages.Outgoing.TheVariants.{Nothing}
 use Rattle.message.specs.declared.messages.Message.{Message}
 use Rattle.message.specs.declared.messages.Message.TheVariants.{Connect, Initiate, Test, Accept, Reject, Report, Change}
 use Rattle.message.specs.Bytes.{fits, weighs}
@@ -40,7 +39,7 @@ TestsLightest =
 
 -- what an initiate may bring over an edge over which it does not go on: nothing, the test of a basic edge, or a report back
 abbrev pub Besides : Node → ℕ → ℕ → ℕ → ℕ → Option Message → Type 0
-Besides n j l f k s = (s ≡ None) ⊎ ((is_basic (mark_of n k) ≡ true) × (s ≡ Some (Test l f))) ⊎ ((k ≡ j) × (s ≡ Some (Report Nothing)))
+Besides n j l f k s = (s ≡ None) ⊎ ((is_basic (mark_of n k) ≡ true) × (s ≡ Some (Test l f))) ⊎ ((k ≡ j) × (s ≡ Some (Report None)))
 
 -- an initiate that is taken goes on over every branch but the one it came by, and nothing is put in its place
 abbrev pub NothingLost : Type 0

@@ -1,17 +1,15 @@
 -- What a node does: the definition that its code and the proof of the protocol both cite. A node's edges are numbered from 0; what it sends is a list with a place for each.
-use Rattle.std.specs.Prelude.{ℕ, zero, suc, ◌+◌, ◌-◌, Bool, true, false, cond, not, ◌&&◌, ◌||◌, List, ◌++◌, length, replicate, is_some, Some, None, Option, ◌==◌, nat_le, nat_lt, slice_index, slice_index_or, slice_set}
+use Rattle.std.specs.Prelude.{◌≡◌, ℕ, zero, suc, ◌+◌, ◌-◌, ◌<◌, Bool, true, false, cond, not, ◌&&◌, ◌||◌, List, ◌++◌, length, replicate, is_some, Some, None, Option, ◌==◌, nat_le, nat_lt, slice_index, slice_index_or, slice_set}
 use Rattle.message.specs.declared.refusals.Refusal.TheVariants.{NoSuchEdge, OutOfPlace}
 use Rattle.message.specs.declared.messages.Phase.{Phase}
 use Rattle.message.specs.declared.messages.Phase.TheVariants as phase
-use Rattle.message.specs.declared.messages.Outgoing.{Outgoing}
-use Rattle.message.specs.declared.messages.Outgoing.TheVariants.{Nothing, Weight}
 use Rattle.message.specs.declared.messages.Message.{Message}
 use Rattle.message.specs.declared.messages.Message.TheVariants.{Connect, Initiate, Test, Accept, Reject, Report, Change}
 use Rattle.message.specs.Bytes.{fits}
 use Rattle.node.specs.declared.state.Status.{Status}
 use Rattle.node.specs.declared.state.Status.TheVariants.{Sleeping, Find, Found}
-use Rattle.node.specs.declared.state.Mark.{Mark}
-use Rattle.node.specs.declared.state.Mark.TheVariants.{Basic, Branch, Rejected}
+use Rattle.graph.specs.declared.mark.Mark.{Mark}
+use Rattle.graph.specs.declared.mark.Mark.TheVariants.{Basic, Branch, Rejected}
 use Rattle.node.specs.declared.state.Best.{Best}
 use Rattle.node.specs.declared.state.Best.TheVariants as best
 use Rattle.node.specs.declared.state.Node.{Node}
@@ -64,6 +62,10 @@ has_edge n j = nat_lt j n.edges && nat_lt j 16
 abbrev pub mark_of : Node → ℕ → Mark
 mark_of n j = slice_index_or n.marks j Basic
 
+-- is there such an edge, and is it basic
+abbrev pub has_basic : Node → ℕ → Bool
+has_basic n j = has_edge n j && is_basic (mark_of n j)
+
 abbrev pub weight_of : Node → ℕ → ℕ
 weight_of n j = slice_index n.weights j
 
@@ -72,19 +74,19 @@ abbrev pub is_edge : Option ℕ → ℕ → Bool
 is_edge None j = false
 is_edge (Some k) j = k == j
 
-abbrev pub best_weight : Best → Outgoing
-best_weight best.Nothing = Nothing
-best_weight (best.Over j w) = Weight w
+abbrev pub best_weight : Best → Option ℕ
+best_weight best.Nothing = None
+best_weight (best.Over j w) = Some w
 
-abbrev pub is_nothing : Outgoing → Bool
-is_nothing Nothing = true
-is_nothing (Weight w) = false
+abbrev pub is_nothing : Option ℕ → Bool
+is_nothing None = true
+is_nothing (Some w) = false
 
 -- is one weight lighter than another; any weight is lighter than none
-abbrev pub lighter : Outgoing → Outgoing → Bool
-lighter Nothing w = false
-lighter (Weight x) Nothing = true
-lighter (Weight x) (Weight y) = nat_lt x y
+abbrev pub lighter : Option ℕ → Option ℕ → Bool
+lighter None w = false
+lighter (Some x) None = true
+lighter (Some x) (Some y) = nat_lt x y
 
 abbrev pub silent : Sends
 silent = replicate 16 None
@@ -96,32 +98,33 @@ sending j m s = slice_set s j (Some m)
 abbrev pub turn : Node → Sends → Turn
 turn n s = record { node = n; sends = s }
 
--- the lighter of an edge that is picked (any, or only if it is basic) and of what was found before
+-- the lighter of an edge and of what was found before
 abbrev pub lighter_of : Node → ℕ → Option ℕ → Option ℕ
 lighter_of n j None = Some j
 lighter_of n j (Some k) = cond (nat_lt (weight_of n j) (weight_of n k)) (Some j) (Some k)
 
-abbrev pub picks : Node → Bool → ℕ → Bool
-picks n any j = has_edge n j && (any || is_basic (mark_of n j))
+-- what a closure answers of the sixteen places is what p says
+abbrev pub Picks : (ℕ → Bool → Type 0) → (ℕ → Bool) → Type 0
+Picks answers p = (j : ℕ) (r : Bool) → j < 16 → answers j r → r ≡ p j
 
--- the lightest of the edges below k that are picked
-unfoldable pub lightest : Node → Bool → ℕ → Option ℕ
-lightest n any zero = None
-lightest n any (suc k) = cond (picks n any k) (lighter_of n k (lightest n any k)) (lightest n any k)
+-- the lightest of the edges below k that p picks
+unfoldable pub lightest : Node → (ℕ → Bool) → ℕ → Option ℕ
+lightest n p zero = None
+lightest n p (suc k) = cond (p k) (lighter_of n k (lightest n p k)) (lightest n p k)
 
 -- WAKING. The lightest edge becomes a branch, and connect 0 goes over it; a node without edges has halted.
 abbrev pub woken_by : Option ℕ → Node → Turn
-woken_by None n = turn (record { status = Found; edges = n.edges; weights = n.weights; marks = n.marks; level = 0; name = n.name; find_count = 0; parent = n.parent; best = n.best; testing = n.testing; halted = true }) silent
+woken_by None n = turn (record n { status = Found; level = 0; find_count = 0; halted = true }) silent
 woken_by (Some j) n =
-    turn (record { status = Found; edges = n.edges; weights = n.weights; marks = slice_set n.marks j Branch; level = 0; name = n.name; find_count = 0; parent = n.parent; best = n.best; testing = n.testing; halted = n.halted })
+    turn (record n { status = Found; marks = slice_set n.marks j Branch; level = 0; find_count = 0 })
     (sending j (Connect 0) silent)
 
 abbrev pub wakes : Node → Turn
-wakes n = cond (is_sleeping n.status) (woken_by (lightest n true 16) n) (turn n silent)
+wakes n = cond (is_sleeping n.status) (woken_by (lightest n (has_edge n) 16) n) (turn n silent)
 
 -- REPORTING. A node that waits for nobody and tests nothing has found: it tells its parent the best weight.
 abbrev pub found : Node → Node
-found n = record { status = Found; edges = n.edges; weights = n.weights; marks = n.marks; level = n.level; name = n.name; find_count = n.find_count; parent = n.parent; best = n.best; testing = n.testing; halted = n.halted }
+found n = record n { status = Found }
 
 abbrev pub sending_to : Option ℕ → Message → Sends → Sends
 sending_to None m s = s
@@ -135,18 +138,18 @@ reports n s =
 
 -- TESTING. A node asks about its lightest basic edge; if there is none it tests nothing, and reports if it may.
 abbrev pub testing : Option ℕ → Node → Node
-testing e n = record { status = n.status; edges = n.edges; weights = n.weights; marks = n.marks; level = n.level; name = n.name; find_count = n.find_count; parent = n.parent; best = n.best; testing = e; halted = n.halted }
+testing e n = record n { testing = e }
 
 abbrev pub tests_by : Option ℕ → Node → Sends → Turn
 tests_by None n s = reports (testing None n) s
 tests_by (Some j) n s = turn (testing (Some j) n) (sending j (Test n.level n.name) s)
 
 abbrev pub tests : Node → Sends → Turn
-tests n s = tests_by (lightest n false 16) n s
+tests n s = tests_by (lightest n (has_basic n) 16) n s
 
 -- CHANGING ROOT. Towards the best edge: over a branch the word is passed on; a basic edge becomes a branch, and the fragment connects over it.
 abbrev pub branching : ℕ → Node → Node
-branching j n = record { status = n.status; edges = n.edges; weights = n.weights; marks = slice_set n.marks j Branch; level = n.level; name = n.name; find_count = n.find_count; parent = n.parent; best = n.best; testing = n.testing; halted = n.halted }
+branching j n = record n { marks = slice_set n.marks j Branch }
 
 abbrev pub changes : ℕ → Node → Turn
 changes j n =
@@ -155,7 +158,7 @@ changes j n =
 -- connect l: a lower fragment is absorbed; one of the same level has to wait while the edge is basic; else the two merge, a level higher.
 -- Where the count or the level has no room left the message cannot have come.
 abbrev pub absorbing : ℕ → Node → Node
-absorbing j n = record { status = n.status; edges = n.edges; weights = n.weights; marks = slice_set n.marks j Branch; level = n.level; name = n.name; find_count = n.find_count + cond (is_find n.status) 1 0; parent = n.parent; best = n.best; testing = n.testing; halted = n.halted }
+absorbing j n = record n { marks = slice_set n.marks j Branch; find_count = n.find_count + cond (is_find n.status) 1 0 }
 
 abbrev pub absorbs : ℕ → Node → Taking
 absorbs j n =
@@ -185,7 +188,7 @@ branches_but n j zero = 0
 branches_but n j (suc k) = cond (goes_on n j k) (branches_but n j k + 1) (branches_but n j k)
 
 abbrev pub joining : ℕ → ℕ → ℕ → Phase → ℕ → Node → Node
-joining j l f p c n = record { status = status_of p; edges = n.edges; weights = n.weights; marks = n.marks; level = l; name = f; find_count = c; parent = Some j; best = best.Nothing; testing = n.testing; halted = n.halted }
+joining j l f p c n = record n { status = status_of p; level = l; name = f; find_count = c; parent = Some j; best = best.Nothing }
 
 abbrev pub takes_initiate : ℕ → ℕ → ℕ → Phase → Node → Taking
 takes_initiate j l f phase.Find n =
@@ -195,7 +198,7 @@ takes_initiate j l f phase.Found n = Taken (turn (joining j l f phase.Found n.fi
 
 -- test l f: a higher level has to wait; another name is accepted; the same name makes the edge rejected, and the answer is a reject, or the next test if it is this edge that the node asks about.
 abbrev pub rejecting : ℕ → Node → Node
-rejecting j n = record { status = n.status; edges = n.edges; weights = n.weights; marks = cond (is_basic (mark_of n j)) (slice_set n.marks j Rejected) n.marks; level = n.level; name = n.name; find_count = n.find_count; parent = n.parent; best = n.best; testing = n.testing; halted = n.halted }
+rejecting j n = record n { marks = cond (is_basic (mark_of n j)) (slice_set n.marks j Rejected) n.marks }
 
 abbrev pub takes_test : ℕ → ℕ → ℕ → Node → Taking
 takes_test j l f n =
@@ -205,24 +208,24 @@ takes_test j l f n =
     (Taken (turn n (sending j Accept silent))))
 
 -- accept, reject: the answer to the test; without one it cannot have come.
-abbrev pub better_by : ℕ → Outgoing → Best → Best
-better_by j Nothing b = b
-better_by j (Weight w) b = cond (lighter (Weight w) (best_weight b)) (best.Over j w) b
+abbrev pub better_by : ℕ → Option ℕ → Best → Best
+better_by j None b = b
+better_by j (Some w) b = cond (lighter (Some w) (best_weight b)) (best.Over j w) b
 
-abbrev pub bettering : ℕ → Outgoing → Node → Node
-bettering j w n = record { status = n.status; edges = n.edges; weights = n.weights; marks = n.marks; level = n.level; name = n.name; find_count = n.find_count; parent = n.parent; best = better_by j w n.best; testing = n.testing; halted = n.halted }
+abbrev pub bettering : ℕ → Option ℕ → Node → Node
+bettering j w n = record n { best = better_by j w n.best }
 
 abbrev pub takes_accept : ℕ → Node → Taking
-takes_accept j n = cond (is_edge n.testing j) (Taken (reports (bettering j (Weight (weight_of n j)) (testing None n)) silent)) (Refused n OutOfPlace)
+takes_accept j n = cond (is_edge n.testing j) (Taken (reports (bettering j (Some (weight_of n j)) (testing None n)) silent)) (Refused n OutOfPlace)
 
 abbrev pub takes_reject : ℕ → Node → Taking
 takes_reject j n = cond (is_edge n.testing j) (Taken (tests (rejecting j n) silent)) (Refused n OutOfPlace)
 
 -- report w, from elsewhere than the parent: one less to wait for.
 abbrev pub heard : Node → Node
-heard n = record { status = n.status; edges = n.edges; weights = n.weights; marks = n.marks; level = n.level; name = n.name; find_count = n.find_count - 1; parent = n.parent; best = n.best; testing = n.testing; halted = n.halted }
+heard n = record n { find_count = n.find_count - 1 }
 
-abbrev pub takes_child_report : ℕ → Outgoing → Node → Taking
+abbrev pub takes_child_report : ℕ → Option ℕ → Node → Taking
 takes_child_report j w n = Taken (reports (bettering j w (heard n)) silent)
 
 -- change, and what a report can come to: over the best edge, if there is one.
@@ -231,13 +234,13 @@ changes_by best.Nothing n = Refused n OutOfPlace
 changes_by (best.Over j w) n = Taken (changes j n)
 
 -- report w, from the parent: in find it has to wait; the end with the lighter best changes root; if neither has one the net is complete.
-abbrev pub halting : Outgoing → Node → Node
-halting w n = record { status = n.status; edges = n.edges; weights = n.weights; marks = n.marks; level = n.level; name = n.name; find_count = n.find_count; parent = n.parent; best = n.best; testing = n.testing; halted = n.halted || (is_nothing w && is_nothing (best_weight n.best)) }
+abbrev pub halting : Option ℕ → Node → Node
+halting w n = record n { halted = n.halted || (is_nothing w && is_nothing (best_weight n.best)) }
 
-abbrev pub decides : Outgoing → Node → Taking
+abbrev pub decides : Option ℕ → Node → Taking
 decides w n = cond (lighter (best_weight n.best) w) (changes_by n.best n) (Taken (turn (halting w n) silent))
 
-abbrev pub takes_parent_report : Outgoing → Node → Taking
+abbrev pub takes_parent_report : Option ℕ → Node → Taking
 takes_parent_report w n = cond (is_find n.status) (Deferred n) (decides w n)
 
 -- THE RULES, for a node that is awake.

@@ -1,11 +1,13 @@
 // A node's edges: their marks and weights, and which is the lightest.
-ghost use Rattle.std.specs.Prelude.{◌≡◌};
-ghost use Rattle.node.specs.Rules.{has_edge, mark_of, weight_of, sending, branching, rejecting, lightest, lighter_of, picks, lighter};
+ghost use Rattle.std.specs.Prelude.{◌≡◌, ℕ, Bool};
+ghost use Rattle.node.specs.Rules.{has_edge, mark_of, weight_of, sending, branching, rejecting, lightest, lighter_of, lighter, Picks};
 
-use super::state::{Mark, Node, SLOTS, Sends};
-use message::{Message, Outgoing};
+use super::state::{Node, SLOTS, Sends};
+use graph::mark::Mark;
+use message::Message;
 
-// One message more.
+// One message more. (Of an element that `get_mut` lends a proof knows nothing: so this, `with_branch` and `reject`
+// ask for the place.)
 pub(crate) fn send(mut sends: Sends, edge: usize, message: Message) -> Sends
     ensures { result ≡ sending edge message sends }
 {
@@ -15,14 +17,14 @@ pub(crate) fn send(mut sends: Sends, edge: usize, message: Message) -> Sends
     sends
 }
 
-// Is one weight lighter than another; any weight is lighter than none.
-pub(crate) fn is_lighter(a: Outgoing, b: Outgoing) -> bool
+// Is one weight lighter than another; any weight is lighter than none. (In the order of `Option` none is the least.)
+pub(crate) fn is_lighter(a: Option<u32>, b: Option<u32>) -> bool
     ensures { result ≡ lighter a b }
 {
     match (a, b) {
-        (Outgoing::Nothing, _) => false,
-        (Outgoing::Weight(_), Outgoing::Nothing) => true,
-        (Outgoing::Weight(x), Outgoing::Weight(y)) => x < y,
+        (None, _) => false,
+        (Some(_), None) => true,
+        (Some(x), Some(y)) => x < y,
     }
 }
 
@@ -33,20 +35,17 @@ impl Node {
         edge < self.edges && edge < SLOTS
     }
 
+    // Where there is no such place a mark is basic and a weight 0, as the definitions have it.
     pub(crate) fn mark(self, edge: usize) -> Mark
         ensures { result ≡ mark_of self edge }
     {
-        if edge < SLOTS {
-            self.marks[edge]
-        } else {
-            Mark::Basic
-        }
+        self.marks.get(edge).copied().unwrap_or(Mark::Basic)
     }
 
     pub(crate) fn weight(self, edge: usize) -> u32
         ensures { result ≡ weight_of self edge }
     {
-        if edge < SLOTS { self.weights[edge] } else { 0 }
+        self.weights.get(edge).copied().unwrap_or(0)
     }
 
     pub(crate) fn with_branch(mut self, edge: usize) -> Node
@@ -62,17 +61,10 @@ impl Node {
     pub(crate) fn reject(mut self, edge: usize) -> Node
         ensures { result ≡ rejecting edge self }
     {
-        if edge < SLOTS && matches!(self.marks[edge], Mark::Basic) {
+        if edge < SLOTS && self.marks[edge] == Mark::Basic {
             self.marks[edge] = Mark::Rejected;
         }
         self
-    }
-
-    // Is an edge one of those to choose from: any, or only if it is basic.
-    fn picks(self, any: bool, edge: usize) -> bool
-        ensures { result ≡ picks self any edge }
-    {
-        self.has_edge(edge) && (any || matches!(self.mark(edge), Mark::Basic))
     }
 
     // The lighter of an edge and of what was found before.
@@ -80,22 +72,20 @@ impl Node {
         ensures { result ≡ lighter_of self edge found }
     {
         match found {
-            None => Some(edge),
-            Some(other) => if self.weight(edge) < self.weight(other) {
-                Some(edge)
-            } else {
-                Some(other)
-            },
+            Some(other) if self.weight(other) <= self.weight(edge) => found,
+            _ => Some(edge),
         }
     }
 
-    // The lightest edge, or the lightest basic edge.
-    pub(crate) fn lightest(self, any: bool) -> Option<usize>
-        ensures { result ≡ lightest self any 16 }
+    // The lightest of the edges that are picked.
+    pub(crate) fn lightest<F: Fn(usize) -> bool>(self, picks: F) -> Option<usize>
+        requires { F.IsAlwaysCallable picks }
+        ensures { (p : ℕ → Bool) → Picks (F.post picks) p → result ≡ lightest self p 16 }
     {
+        // A `fold` whose closure holds this `if` says no more; with `filter` before it the proof did not close.
         let mut found = None;
         for edge in 0..SLOTS {
-            if self.picks(any, edge) {
+            if picks(edge) {
                 found = self.lighter_of(edge, found);
             }
         }

@@ -1,62 +1,42 @@
 // What a node promises, each law on a function of its own.
 ghost use Rattle.node.specs.Laws.{MarksStay, TestsLightest, NothingLost, UntakenUnchanged, LevelKept, SendsFit, WithinEdges, FreshFit, MarksLast, AlwaysFit};
 
-pub fn marks_stay() -> u8
+pub fn marks_stay()
     ensures { MarksStay }
-{
-    0
-}
+{}
 
-pub fn tests_lightest() -> u8
+pub fn tests_lightest()
     ensures { TestsLightest }
-{
-    0
-}
+{}
 
-pub fn nothing_lost() -> u8
+pub fn nothing_lost()
     ensures { NothingLost }
-{
-    0
-}
+{}
 
-pub fn untaken_unchanged() -> u8
+pub fn untaken_unchanged()
     ensures { UntakenUnchanged }
-{
-    0
-}
+{}
 
-pub fn level_kept() -> u8
+pub fn level_kept()
     ensures { LevelKept }
-{
-    0
-}
+{}
 
-pub fn sends_fit() -> u8
+pub fn sends_fit()
     ensures { SendsFit }
-{
-    0
-}
+{}
 
-pub fn within_edges() -> u8
+pub fn within_edges()
     ensures { WithinEdges }
-{
-    0
-}
+{}
 
-pub fn fresh_fit() -> u8
+pub fn fresh_fit()
     ensures { FreshFit }
-{
-    0
-}
+{}
 
-pub fn marks_last() -> u8
+pub fn marks_last()
     ensures { MarksLast }
-{
-    0
-}
+{}
 
-pub fn always_fit() -> u8
+pub fn always_fit()
     ensures { AlwaysFit }
-{
-    0
-}
+{}

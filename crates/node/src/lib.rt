@@ -8,8 +8,9 @@ mod state;
 #[cfg(test)]
 mod tests;
 
+pub use graph::mark::Mark;
 pub use laws::{
     always_fit, fresh_fit, level_kept, marks_last, marks_stay, nothing_lost, sends_fit,
     tests_lightest, untaken_unchanged, within_edges,
 };
-pub use state::{Best, Mark, Node, Sends, Status, Taking, Turn};
+pub use state::{Best, Node, Sends, Status, Taking, Turn};

@@ -1,68 +1,67 @@
 // What a node does when it wakes, and with each message.
 ghost use Rattle.std.specs.Prelude.{◌≡◌};
-ghost use Rattle.node.specs.Rules.{wakes, reports, tests, changes, changes_by, goes_on, onward, branches_but, better_by, absorbs, merges, takes_connect, takes_initiate, takes_test, takes_accept, takes_reject, takes_child_report, decides, follows, takes, best_weight};
+ghost use Rattle.node.specs.Rules.{wakes, reports, tests, changes, changes_by, goes_on, onward, branches_but, better_by, silent, turn, sending, absorbs, merges, takes_connect, takes_initiate, takes_test, takes_accept, takes_reject, takes_child_report, decides, follows, takes};
 
 use super::edges::{is_lighter, send};
-use super::state::{Best, Mark, Node, SLOTS, Sends, Status, Taking, Turn};
-use message::{Message, Outgoing, Phase, Refusal, TOP_LEVEL};
+use super::state::{Best, Node, SLOTS, Sends, Status, Taking, Turn};
+use graph::mark::Mark;
+use message::{Message, Phase, Refusal, TOP_LEVEL};
 
 // Nothing over any edge.
 const SILENT: Sends = [None; SLOTS];
 
 impl Best {
-    fn outgoing(self) -> Outgoing
-        ensures { result ≡ best_weight self }
-    {
-        match self {
-            Best::Nothing => Outgoing::Nothing,
-            Best::Over { weight, .. } => Outgoing::Weight(weight),
-        }
-    }
-
     // What an edge leads to, if that is lighter.
-    fn better_by(self, edge: usize, outgoing: Outgoing) -> Best
+    fn better_by(self, edge: usize, outgoing: Option<u32>) -> Best
         ensures { result ≡ better_by edge outgoing self }
     {
         match outgoing {
-            Outgoing::Nothing => self,
-            Outgoing::Weight(weight) => if is_lighter(outgoing, self.outgoing()) {
-                Best::Over { edge, weight }
-            } else {
-                self
-            },
+            Some(weight) if is_lighter(outgoing, self.weight()) => Best::Over { edge, weight },
+            _ => self,
         }
     }
 }
 
 impl Node {
+    // This node, and nothing to send.
+    fn silent(self) -> Turn
+        ensures { result ≡ turn self silent }
+    {
+        Turn {
+            node: self,
+            sends: SILENT,
+        }
+    }
+
+    // This node, and one message to send.
+    fn sends(self, edge: usize, message: Message) -> Turn
+        ensures { result ≡ turn self (sending edge message silent) }
+    {
+        Turn {
+            node: self,
+            sends: send(SILENT, edge, message),
+        }
+    }
+
     // A sleeping node wakes: its lightest edge becomes a branch, and it connects over it. One that is awake does nothing.
     pub fn wake(mut self) -> Turn
         ensures { result ≡ wakes self }
     {
-        if !matches!(self.status, Status::Sleeping) {
-            return Turn {
-                node: self,
-                sends: SILENT,
-            };
+        if self.status != Status::Sleeping {
+            return self.silent();
         }
-        let lightest = self.lightest(true);
+        let lightest = self.lightest(|edge| self.has_edge(edge));
         self.status = Status::Found;
         self.level = 0;
         self.find_count = 0;
         match lightest {
             None => {
                 self.halted = true;
-                Turn {
-                    node: self,
-                    sends: SILENT,
-                }
+                self.silent()
             }
             Some(edge) => {
                 let node = self.with_branch(edge);
-                Turn {
-                    node,
-                    sends: send(SILENT, edge, Message::Connect { level: 0 }),
-                }
+                node.sends(edge, Message::Connect { level: 0 })
             }
         }
     }
@@ -75,7 +74,7 @@ impl Node {
             return Turn { node: self, sends };
         }
         self.status = Status::Found;
-        let best = self.best.outgoing();
+        let best = self.best.weight();
         match self.parent {
             None => Turn { node: self, sends },
             Some(edge) => Turn {
@@ -89,20 +88,17 @@ impl Node {
     fn test_next(mut self, sends: Sends) -> Turn
         ensures { result ≡ tests self sends }
     {
-        let next = self.lightest(false);
-        self.testing = next;
-        match next {
+        self.testing = self.lightest(|edge| self.has_edge(edge) && self.mark(edge) == Mark::Basic);
+        let test = Message::Test {
+            level: self.level,
+            name: self.name,
+        };
+        match self.testing {
             None => self.report_if_ready(sends),
-            Some(edge) => {
-                let test = Message::Test {
-                    level: self.level,
-                    name: self.name,
-                };
-                Turn {
-                    node: self,
-                    sends: send(sends, edge, test),
-                }
-            }
+            Some(edge) => Turn {
+                node: self,
+                sends: send(sends, edge, test),
+            },
         }
     }
 
@@ -110,50 +106,35 @@ impl Node {
     fn change_root(self, edge: usize) -> Turn
         ensures { result ≡ changes edge self }
     {
-        if matches!(self.mark(edge), Mark::Branch) {
-            return Turn {
-                node: self,
-                sends: send(SILENT, edge, Message::Change),
-            };
+        if self.mark(edge) == Mark::Branch {
+            return self.sends(edge, Message::Change);
         }
         let connect = Message::Connect { level: self.level };
-        Turn {
-            node: self.with_branch(edge),
-            sends: send(SILENT, edge, connect),
-        }
+        self.with_branch(edge).sends(edge, connect)
     }
 
-    // A fragment of a lower level joins this one.
+    // A fragment of a lower level joins this one; a node that searches waits for one more.
     fn absorb(mut self, edge: usize) -> Taking
         ensures { result ≡ absorbs edge self }
     {
-        let before = self;
-        let phase = match self.status {
-            Status::Find => {
-                let Some(count) = self.find_count.checked_add(1) else {
-                    return Taking::Refused(before, Refusal::OutOfPlace);
-                };
-                self.find_count = count;
-                Phase::Find
-            }
-            Status::Found | Status::Sleeping => Phase::Found,
+        let joiners = u8::from(self.status == Status::Find);
+        let Some(count) = self.find_count.checked_add(joiners) else {
+            return Taking::Refused(self, Refusal::OutOfPlace);
         };
+        self.find_count = count;
         let initiate = Message::Initiate {
             level: self.level,
             name: self.name,
-            phase,
+            phase: Phase::from(self.status),
         };
-        Taking::Taken(Turn {
-            node: self.with_branch(edge),
-            sends: send(SILENT, edge, initiate),
-        })
+        Taking::Taken(self.with_branch(edge).sends(edge, initiate))
     }
 
     // Two fragments of one level that chose the same edge become one of the next level, named by that edge.
     fn merge(self, edge: usize) -> Taking
         ensures { result ≡ merges edge self }
     {
-        if matches!(self.mark(edge), Mark::Basic) {
+        if self.mark(edge) == Mark::Basic {
             return Taking::Deferred(self);
         }
         if self.level >= TOP_LEVEL {
@@ -164,10 +145,7 @@ impl Node {
             name: self.weight(edge),
             phase: Phase::Find,
         };
-        Taking::Taken(Turn {
-            node: self,
-            sends: send(SILENT, edge, initiate),
-        })
+        Taking::Taken(self.sends(edge, initiate))
     }
 
     fn take_connect(self, edge: usize, level: u8) -> Taking
@@ -184,10 +162,11 @@ impl Node {
     fn goes_on(self, from: usize, edge: usize) -> bool
         ensures { result ≡ goes_on self from edge }
     {
-        edge != from && self.has_edge(edge) && matches!(self.mark(edge), Mark::Branch)
+        edge != from && self.has_edge(edge) && self.mark(edge) == Mark::Branch
     }
 
-    // The message over all branches but one, and how many these are.
+    // The message over all branches but one, and how many these are. A loop over the edges that sends and counts, by a
+    // rule of the project.
     fn pass_on(self, from: usize, message: Message) -> (Sends, u8)
         ensures sent { result.0 ≡ onward self from message 16 }
         ensures counted { result.1 ≡ branches_but self from 16 }
@@ -203,28 +182,27 @@ impl Node {
         (sends, count)
     }
 
-    fn take_initiate(mut self, edge: usize, level: u8, name: u32, phase: Phase) -> Taking
+    fn take_initiate(self, edge: usize, level: u8, name: u32, phase: Phase) -> Taking
         ensures { result ≡ takes_initiate edge level name phase self }
     {
-        let before = self;
-        let (sends, count) = self.pass_on(edge, Message::Initiate { level, name, phase });
-        self.level = level;
-        self.name = name;
-        self.parent = Some(edge);
-        self.best = Best::Nothing;
+        let (sends, branches) = self.pass_on(edge, Message::Initiate { level, name, phase });
+        let mut node = Node {
+            status: Status::from(phase),
+            level,
+            name,
+            parent: Some(edge),
+            best: Best::Nothing,
+            ..self
+        };
         match phase {
             Phase::Find => {
-                let Some(count) = self.find_count.checked_add(count) else {
-                    return Taking::Refused(before, Refusal::OutOfPlace);
+                let Some(count) = self.find_count.checked_add(branches) else {
+                    return Taking::Refused(self, Refusal::OutOfPlace);
                 };
-                self.status = Status::Find;
-                self.find_count = count;
-                Taking::Taken(self.test_next(sends))
+                node.find_count = count;
+                Taking::Taken(node.test_next(sends))
             }
-            Phase::Found => {
-                self.status = Status::Found;
-                Taking::Taken(Turn { node: self, sends })
-            }
+            Phase::Found => Taking::Taken(Turn { node, sends }),
         }
     }
 
@@ -235,18 +213,13 @@ impl Node {
             return Taking::Deferred(self);
         }
         if name != self.name {
-            return Taking::Taken(Turn {
-                node: self,
-                sends: send(SILENT, edge, Message::Accept),
-            });
+            return Taking::Taken(self.sends(edge, Message::Accept));
         }
         let node = self.reject(edge);
-        if self.testing == Some(edge) {
-            return Taking::Taken(node.test_next(SILENT));
-        }
-        Taking::Taken(Turn {
-            node,
-            sends: send(SILENT, edge, Message::Reject),
+        Taking::Taken(if self.testing == Some(edge) {
+            node.test_next(SILENT)
+        } else {
+            node.sends(edge, Message::Reject)
         })
     }
 
@@ -257,9 +230,7 @@ impl Node {
             return Taking::Refused(self, Refusal::OutOfPlace);
         }
         self.testing = None;
-        self.best = self
-            .best
-            .better_by(edge, Outgoing::Weight(self.weight(edge)));
+        self.best = self.best.better_by(edge, Some(self.weight(edge)));
         Taking::Taken(self.report_if_ready(SILENT))
     }
 
@@ -273,7 +244,7 @@ impl Node {
     }
 
     // From elsewhere than the parent: one less to wait for.
-    fn take_child_report(mut self, edge: usize, best: Outgoing) -> Taking
+    fn take_child_report(mut self, edge: usize, best: Option<u32>) -> Taking
         ensures { result ≡ takes_child_report edge best self }
     {
         self.find_count = self.find_count.saturating_sub(1);
@@ -292,23 +263,20 @@ impl Node {
 
     // From the parent, over the core, to a node that has found: the end with the lighter best edge changes root; if
     // neither has one, the net is complete.
-    fn decide(mut self, best: Outgoing) -> Taking
+    fn decide(mut self, best: Option<u32>) -> Taking
         ensures { result ≡ decides best self }
     {
-        let own = self.best.outgoing();
+        let own = self.best.weight();
         if is_lighter(own, best) {
             return self.take_change();
         }
-        if matches!(own, Outgoing::Nothing) && matches!(best, Outgoing::Nothing) {
+        if own.is_none() && best.is_none() {
             self.halted = true;
         }
-        Taking::Taken(Turn {
-            node: self,
-            sends: SILENT,
-        })
+        Taking::Taken(self.silent())
     }
 
-    // The rules, row by row. One that sleeps leaves the message until it is awake.
+    // The rules, row by row: a match over messages and state, a rule of the project. One that sleeps leaves the message until it is awake.
     fn follow_rules(self, edge: usize, message: Message) -> Taking
         ensures { result ≡ follows edge message self }
     {

@@ -1,7 +1,6 @@
 // One node, by examples.
-use super::state::SLOTS;
 use super::{Best, Mark, Node, Sends, Status, Taking, Turn};
-use message::{Message, Outgoing, Phase, Refusal};
+use message::{Message, Phase, Refusal};
 use std::test::Fail;
 
 const INITIATE: Message = Message::Initiate {
@@ -10,14 +9,10 @@ const INITIATE: Message = Message::Initiate {
     phase: Phase::Find,
 };
 
-const NONE: Message = Message::Report {
-    best: Outgoing::Nothing,
-};
+const NONE: Message = Message::Report { best: None };
 
 fn woken(weights: &[u32]) -> Result<Turn, &'static str> {
-    let Some(node) = Node::new(weights) else {
-        return Err("more than sixteen edges");
-    };
+    let node = Node::new(weights).ok_or("more than sixteen edges")?;
     Ok(node.wake())
 }
 
@@ -50,37 +45,26 @@ fn has_no_edge(node: Node, edge: usize, message: Message) -> bool {
 
 // What goes over one edge, if nothing goes over any other.
 fn only_over(sends: Sends, edge: usize) -> Option<Message> {
-    let mut found = None;
-    for k in 0..SLOTS {
-        if k == edge {
-            found = sends[k];
-        } else if sends[k].is_some() {
-            return None;
-        }
+    let mut others = sends.iter().enumerate().filter(|(k, _)| *k != edge);
+    if others.any(|(_, sent)| sent.is_some()) {
+        return None;
     }
-    found
+    *sends.get(edge)?
 }
 
 fn is_silent(sends: Sends) -> bool {
-    for sent in sends {
-        if sent.is_some() {
-            return false;
-        }
-    }
-    true
+    sends.iter().all(|sent| sent.is_none())
 }
 
 fn reports_none(turn: Turn, edge: usize) -> bool {
     matches!(
         only_over(turn.sends, edge),
-        Some(Message::Report {
-            best: Outgoing::Nothing
-        })
+        Some(Message::Report { best: None })
     )
 }
 
 fn is_find(node: Node) -> bool {
-    matches!(node.status, Status::Find)
+    node.status == Status::Find
 }
 
 #[test]
@@ -100,8 +84,8 @@ fn wakes(rt: HostRuntime) -> Result<(), Fail> {
             Some(Message::Connect { level: 0 })
         )
     );
-    assert!(rt; matches!(turn.node.marks[1], Mark::Branch));
-    assert!(rt; matches!(turn.node.marks[0], Mark::Basic));
+    assert!(rt; turn.node.marks[1] == Mark::Branch);
+    assert!(rt; turn.node.marks[0] == Mark::Basic);
     assert!(rt; is_silent(turn.node.wake().sends));
     Ok(())
 }
@@ -149,7 +133,7 @@ fn is_tested(rt: HostRuntime) -> Result<(), Fail> {
     assert!(rt; matches!(only_over(turn.sends, 2), Some(Message::Accept)));
     let turn = taken(node, 2, Message::Test { level: 1, name: 3 })?;
     assert!(rt; matches!(only_over(turn.sends, 2), Some(Message::Reject)));
-    assert!(rt; matches!(turn.node.marks[2], Mark::Rejected));
+    assert!(rt; turn.node.marks[2] == Mark::Rejected);
     Ok(())
 }
 
@@ -179,9 +163,7 @@ fn report_overtakes(rt: HostRuntime) -> Result<(), Fail> {
     node.status = Status::Find;
     node.find_count = 1;
     assert!(rt; is_deferred(node, 1, Message::Test { level: 1, name: 9 }));
-    let report = Message::Report {
-        best: Outgoing::Weight(9),
-    };
+    let report = Message::Report { best: Some(9) };
     let turn = taken(node, 1, report)?;
     assert!(rt; turn.node.find_count == 0);
     assert!(rt; matches!(turn.node.best, Best::Over { edge: 1, weight: 9 }));

@@ -1,7 +1,8 @@
-mod Loops
+mod Lines
+mod Parts
 mod Places
 mod Fronts
-mod Lines
+mod NodeRead
 mod NodeReturns
 mod QueueReturns
 mod PageReturns

@@ -7,8 +7,8 @@ use Rattle.message.specs.Bytes.{word, weight_or_zero}
 use Rattle.message.specs.Laws.{Short, ShortOutgoing}
 use Rattle.node.specs.declared.state.Status.{Status}
 use Rattle.node.specs.declared.state.Status.TheVariants.{Sleeping, Find, Found}
-use Rattle.node.specs.declared.state.Mark.{Mark}
-use Rattle.node.specs.declared.state.Mark.TheVariants.{Basic, Branch, Rejected}
+use Rattle.graph.specs.declared.mark.Mark.{Mark}
+use Rattle.graph.specs.declared.mark.Mark.TheVariants.{Basic, Branch, Rejected}
 use Rattle.node.specs.declared.state.Best.{Best}
 use Rattle.node.specs.declared.state.Best.TheVariants.{Nothing, Over}
 use Rattle.node.specs.declared.state.Node.{Node}

@@ -9,9 +9,9 @@ use Rattle.message.specs.Bytes.{word, checksum_of, message_bytes}
 use Rattle.link.specs.Ends.{End}
 use Rattle.station.specs.State.{State}
 use Rattle.page.specs.Page.{node_bytes, queue_bytes, link_bytes, body_bytes, page_bytes, numbers_fit, link_fits, node_fits, head_fits, fields_fit, fits}
-use Rattle.page.specs.Reading.{node_front, queue_front, link_front, links_front, state_front, if_page}
+use Rattle.page.specs.Reading.{node_front, queue_front, fronts, link_front, state_front, if_page}
 use Rattle.page.specs.Laws.{ShortEnd, ShortState, PageReturns, PageReadOnly, PageShort}
-use Rattle.page.proofs.Fronts.{link_all, links_none, links_more, state_all}
+use Rattle.page.proofs.Fronts.{link_all, fronts_none, fronts_more, state_all}
 use Rattle.page.proofs.NodeReturns.{word_returns, node_front_lem}
 use Rattle.page.proofs.QueueReturns.{pair_returns, no_more, queue_front_lem}
 
@@ -40,8 +40,8 @@ link_front_lem e rest h s f =
     (sym (pair_returns e.neighbour near)) (sym (word_returns e.acknowledged (omega arith))) (sym (word_returns e.taken s.0))
 
 links_front_lem : (ls done : List End) (rest : List ℕ) → length (flat_map link_bytes ls) ≤ 16384 → All ShortEnd ls → list_all link_fits ls ≡ true →
-    links_front (length ls) done (flat_map link_bytes ls ++ rest) ≡ Some (done ++ ls)
-links_front_lem [] done rest h s f = links_none done rest ∙ ap Some (sym (append-nil done))
+    fronts link_front (length ls) done (flat_map link_bytes ls ++ rest) ≡ Some (done ++ ls, rest)
+links_front_lem [] done rest h s f = fronts_none link_front 0 done rest refl ∙ ap (λ ls. Some (ls, rest)) (sym (append-nil done))
 links_front_lem (l ∷ ls) done rest h s f =
     let fit = and_parts (link_fits l) (list_all link_fits ls) f in
     let sum = length-append (link_bytes l) (flat_map link_bytes ls) in
@@ -49,10 +49,10 @@ links_front_lem (l ∷ ls) done rest h s f =
     let more : length (flat_map link_bytes ls) ≤ 16384 = omega arith in
     let split = append_assoc (link_bytes l) (flat_map link_bytes ls) rest in
     let head = ap link_front split ∙ link_front_lem l (flat_map link_bytes ls ++ rest) here s.0 fit.0 in
-    let step = links_more (length (l ∷ ls)) done (flat_map link_bytes (l ∷ ls) ++ rest) (l, flat_map link_bytes ls ++ rest) (omega arith) head in
+    let step = fronts_more link_front (length (l ∷ ls)) done (flat_map link_bytes (l ∷ ls) ++ rest) (l, flat_map link_bytes ls ++ rest) (omega arith) head in
     let count : length (l ∷ ls) - 1 ≡ length ls = omega arith in
     let ih = links_front_lem ls (done ++ (l ∷ [])) rest more s.1 fit.1 in
-    step ∙ (ap (λ n. links_front n (done ++ (l ∷ [])) (flat_map link_bytes ls ++ rest)) count ∙ (ih ∙ ap Some (append_assoc done (l ∷ []) ls)))
+    step ∙ (ap (λ n. fronts link_front n (done ++ (l ∷ [])) (flat_map link_bytes ls ++ rest)) count ∙ (ih ∙ ap (λ ls. Some (ls, rest)) (append_assoc done (l ∷ []) ls)))
 
 -- the two bytes of the sum
 abbrev sum_bytes : List ℕ → List ℕ
@@ -82,8 +82,8 @@ state_front_lem s h f =
     let end = sum_bytes (body_bytes s) in
     let near : length links ≤ 16384 = omega (arith, simp length-append at f.short) in
     let first = ap node_front (append_assoc node links end) ∙ node_front_lem s.node h.0 (links ++ end) in
-    let all = ap (λ n. links_front n [] (links ++ end)) f.edges ∙ links_front_lem s.links [] end near h.1 f.links in
-    state_all bs ((node ++ links) ++ end) (s.node, links ++ end) s.links s.number refl (omega arith) (sym first) all (sym (pair_returns s.number f.number))
+    let all = ap (λ n. fronts link_front n [] (links ++ end)) f.edges ∙ links_front_lem s.links [] end near h.1 f.links in
+    state_all bs ((node ++ links) ++ end) (s.node, links ++ end) (s.links, end) s.number refl (omega arith) first all (sym (pair_returns s.number f.number))
 
 pub page_returns : PageReturns
 page_returns s h f =

@@ -8,8 +8,8 @@ use Rattle.message.specs.Bytes.{fits, message_bytes}
 use Rattle.message.specs.Laws.{ShortMessage}
 use Rattle.message.proofs.Carried.{message_returns}
 use Rattle.page.specs.Page.{queue_bytes}
-use Rattle.page.specs.Reading.{with_rest, message_front, messages_front, queue_front}
-use Rattle.page.proofs.Fronts.{front_read, messages_none, messages_more, queue_read}
+use Rattle.page.specs.Reading.{with_rest, message_front, fronts, queue_front}
+use Rattle.page.proofs.Fronts.{front_read, fronts_none, fronts_more, queue_read}
 
 module _ (rest : List ℕ) where
   message_front_lem : (m : Message) → ShortMessage m → fits m ≡ true → message_front (message_bytes m ++ rest) ≡ Some (m, rest)
@@ -35,17 +35,17 @@ pub no_more : (ms : List Message) → length ms ≤ length (flat_map message_byt
 no_more [] = omega arith
 no_more (m ∷ ms) = let ih = no_more ms in let one = some_byte m in let sum = length-append (message_bytes m) (flat_map message_bytes ms) in omega arith
 
-messages_front_lem : (ms done : List Message) (rest : List ℕ) → All ShortMessage ms → list_all fits ms ≡ true → messages_front (length ms) done (flat_map message_bytes ms ++ rest) ≡ Some (done ++ ms, rest)
-messages_front_lem [] done rest s f = messages_none done rest ∙ ap (λ ms. Some (ms, rest)) (sym (append-nil done))
+messages_front_lem : (ms done : List Message) (rest : List ℕ) → All ShortMessage ms → list_all fits ms ≡ true → fronts message_front (length ms) done (flat_map message_bytes ms ++ rest) ≡ Some (done ++ ms, rest)
+messages_front_lem [] done rest s f = fronts_none message_front 0 done rest refl ∙ ap (λ ms. Some (ms, rest)) (sym (append-nil done))
 messages_front_lem (m ∷ ms) done rest s f =
     let fit = and_parts (fits m) (list_all fits ms) f in
     let split = append_assoc (message_bytes m) (flat_map message_bytes ms) rest in
     let head = ap message_front split ∙ message_front_lem (flat_map message_bytes ms ++ rest) m s.0 fit.0 in
-    let step = messages_more (length (m ∷ ms)) done (flat_map message_bytes (m ∷ ms) ++ rest) m (flat_map message_bytes ms ++ rest) (omega arith) head in
+    let step = fronts_more message_front (length (m ∷ ms)) done (flat_map message_bytes (m ∷ ms) ++ rest) (m, flat_map message_bytes ms ++ rest) (omega arith) head in
     let count : length (m ∷ ms) - 1 ≡ length ms = omega arith in
     let ih = messages_front_lem ms (done ++ (m ∷ [])) rest s.1 fit.1 in
     let join = append_assoc done (m ∷ []) ms in
-    step ∙ (ap (λ n. messages_front n (done ++ (m ∷ [])) (flat_map message_bytes ms ++ rest)) count ∙ (ih ∙ ap (λ ms. Some (ms, rest)) join))
+    step ∙ (ap (λ n. fronts message_front n (done ++ (m ∷ [])) (flat_map message_bytes ms ++ rest)) count ∙ (ih ∙ ap (λ ms. Some (ms, rest)) join))
 
 pub pair_returns : (n : ℕ) → n < 65536 → (n / 256 % 256) * 256 + (n % 256) ≡ n
 pair_returns n h = omega arith

@@ -7,12 +7,11 @@ use Rattle.message.specs.Bytes as message
 use Rattle.message.specs.Bytes.{word, message_bytes, weight_or_zero, sealed}
 use Rattle.node.specs.declared.state.Status.{Status}
 use Rattle.node.specs.declared.state.Status.TheVariants.{Sleeping, Find, Found}
-use Rattle.node.specs.declared.state.Mark.{Mark}
-use Rattle.node.specs.declared.state.Mark.TheVariants.{Basic, Branch, Rejected}
-use Rattle.node.specs.declared.state.Best.{Best}
-use Rattle.node.specs.declared.state.Best.TheVariants.{Nothing, Over}
+use Rattle.graph.specs.declared.mark.Mark.{Mark}
+use Rattle.graph.specs.declared.mark.Mark.TheVariants.{Basic, Branch, Rejected}
 use Rattle.node.specs.declared.state.Node.{Node}
 use Rattle.node.specs.Rules.{best_weight}
+pub use Rattle.node.specs.Laws.{best_edge}
 use Rattle.link.specs.Ends.{End}
 use Rattle.station.specs.State.{State}
 use Rattle.page.specs.declared.reasons.Unwritten.{Unwritten}
@@ -40,10 +39,6 @@ place_byte (Some k) = k + 1
 abbrev pub flag_byte : Bool → ℕ
 flag_byte false = 0
 flag_byte true = 1
-
-abbrev pub best_edge : Best → Option ℕ
-best_edge Nothing = None
-best_edge (Over j w) = Some j
 
 -- what a node holds of itself, in sixteen bytes
 abbrev pub field_bytes : Node → List ℕ

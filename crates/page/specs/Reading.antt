@@ -1,14 +1,14 @@
 -- Reading a page: what its bytes would be is taken from them without a test, written again and compared, so that nothing but a page is accepted.
 use Rattle.std.specs.Prelude.{◌≡◌, ℕ, zero, suc, ◌+◌, ◌-◌, ◌*◌, cond, ◌&&◌, ◌||◌, List, [], ◌∷◌, ◌++◌, map, length, take, drop, Some, None, Ok, Err, Option, Result, MatchResult, ◌==◌, nat_lt, slice_index}
-use Rattle.std.specs.Borrow.{Bor}
+use Rattle.std.specs.Simd.{first_chunks}
 use Rattle.std.specs.Str.{bytes_eq}
 use Rattle.message.specs.declared.refusals.Refusal.{Refusal}
 use Rattle.message.specs.declared.messages.Message.{Message}
 use Rattle.message.specs.Bytes.{word_at, message_of}
 use Rattle.node.specs.declared.state.Status.{Status}
 use Rattle.node.specs.declared.state.Status.TheVariants.{Sleeping, Find, Found}
-use Rattle.node.specs.declared.state.Mark.{Mark}
-use Rattle.node.specs.declared.state.Mark.TheVariants.{Basic, Branch, Rejected}
+use Rattle.graph.specs.declared.mark.Mark.{Mark}
+use Rattle.graph.specs.declared.mark.Mark.TheVariants.{Basic, Branch, Rejected}
 use Rattle.node.specs.declared.state.Best.{Best}
 use Rattle.node.specs.declared.state.Best.TheVariants.{Nothing, Over}
 use Rattle.node.specs.declared.state.Node.{Node}
@@ -36,8 +36,7 @@ best_of b w = cond (b == 0) Nothing (Over (b - 1) w)
 
 -- n numbers of four bytes
 unfoldable pub words_of : ℕ → List ℕ → List ℕ
-words_of zero bs = []
-words_of (suc n) bs = word_at bs 0 ∷ words_of n (drop 4 bs)
+words_of n bs = map (λ w. word_at w 0) (first_chunks 4 n bs)
 
 -- the node that 96 bytes are
 unfoldable pub node_of : List ℕ → Node
@@ -81,13 +80,13 @@ message_front bs =
     cond (nat_lt (length bs) 1 || nat_lt (length bs) (size_of (slice_index bs 0))) None
     (with_rest (message_of (take (size_of (slice_index bs 0)) bs)) (drop (size_of (slice_index bs 0)) bs))
 
--- n messages behind those that were read
-unfoldable pub messages_front : ℕ → List Message → List ℕ → Front (List Message)
-messages_front zero ms bs = Some (ms, bs)
-messages_front (suc n) ms bs = and_then (message_front bs) (λ p. messages_front n (ms ++ (p.0 ∷ [])) p.1)
+-- n of a kind behind those that were read
+unfoldable pub fronts : {A : Type 0} → (List ℕ → Front A) → ℕ → List A → List ℕ → Front (List A)
+fronts f zero xs bs = Some (xs, bs)
+fronts f (suc n) xs bs = and_then (f bs) (λ p. fronts f n (xs ++ (p.0 ∷ [])) p.1)
 
 unfoldable pub queue_front : List ℕ → Front (List Message)
-queue_front bs = cond (nat_lt (length bs) 2) None (messages_front (pair_at bs 0) [] (drop 2 bs))
+queue_front bs = cond (nat_lt (length bs) 2) None (fronts message_front (pair_at bs 0) [] (drop 2 bs))
 
 abbrev pub end_at : List ℕ → List Message → List Message → End
 end_at bs outbox inbox = record { neighbour = pair_at bs 0; acknowledged = word_at bs 2; outbox = outbox; taken = word_at bs 6; inbox = inbox }
@@ -97,16 +96,11 @@ link_front bs =
     cond (nat_lt (length bs) 10) None
     (and_then (queue_front (drop 10 bs)) (λ out. and_then (queue_front out.1) (λ inn. Some (end_at bs out.0 inn.0, inn.1))))
 
--- n links behind those that were read; what follows them is left to the comparison
-unfoldable pub links_front : ℕ → List End → List ℕ → Option (List End)
-links_front zero ls bs = Some ls
-links_front (suc n) ls bs = and_then (link_front bs) (λ p. links_front n (ls ++ (p.0 ∷ [])) p.1)
-
--- the state that these bytes would be
+-- the state that these bytes would be; what follows its links is left to the comparison
 unfoldable pub state_front : List ℕ → Option State
 state_front bs =
     cond (nat_lt (length bs) 7) None
-    (and_then (node_front (drop 7 bs)) (λ n. and_then (links_front n.0.edges [] n.1) (λ ls. Some (record { number = pair_at bs 5; node = n.0; links = ls }))))
+    (and_then (node_front (drop 7 bs)) (λ n. and_then (fronts link_front n.0.edges [] n.1) (λ ls. Some (record { number = pair_at bs 5; node = n.0; links = ls.0 }))))
 
 -- it is accepted if it has a page and these bytes are it
 abbrev pub if_page : List ℕ → Option State → Option State
@@ -125,8 +119,3 @@ WhyUnread Foreign o = o ≡ None
 -- what the code read, or why it read nothing
 abbrev pub ReadAs : {A B : Type 0} → (A → B) → Result A Unread → Option B → Type 0
 ReadAs f r o = MatchResult r (λ x. o ≡ Some (f x)) (λ e. WhyUnread e o)
-
--- what the code read, with the bytes behind it
-abbrev pub viewed : {A : Type 0} → Option (A × Bor (List ℕ)) → Front A
-viewed None = None
-viewed (Some p) = Some (p.0, p.1.now)

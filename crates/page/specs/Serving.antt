@@ -1,5 +1,5 @@
 -- Whose page it is, and what is kept after an event.
-use Rattle.std.specs.Prelude.{◌≡◌, ℕ, zero, suc, Bool, true, false, ◌&&◌, List, length, Some, None, vec_items, Option, ◌==◌, nat_le, slice_index_or}
+use Rattle.std.specs.Prelude.{◌≡◌, ℕ, zero, suc, Bool, true, ◌&&◌, List, length, Some, None, vec_items, Option, Result, MatchResult, ◌==◌, nat_le, slice_index_or}
 use Rattle.graph.specs.declared.edge.Neighbour.{Neighbour}
 use Rattle.message.specs.declared.refusals.Refusal.{Refusal}
 use Rattle.message.specs.declared.refusals.Refusal.TheVariants.{ForeignPage}
@@ -12,7 +12,8 @@ use Rattle.station.specs.Events.{did_of}
 use Rattle.page.specs.declared.keeping.Kept.{Kept}
 use Rattle.page.specs.declared.reasons.Unread.{Unread}
 use Rattle.page.specs.declared.reasons.Unread.TheVariants.{Memory, Foreign}
-use Rattle.page.specs.Page.{page_bytes, fits}
+use Rattle.page.specs.declared.reasons.Unwritten.{Unwritten}
+use Rattle.page.specs.Page.{page_bytes, fits, WhyUnwritten}
 
 -- a link leads to this neighbour, and its weight is that of the line
 abbrev pub is_line : End → ℕ → Neighbour → Bool
@@ -34,6 +35,7 @@ refusal_of Memory = None
 refusal_of Foreign = Some ForeignPage
 
 -- the outcome is kept as it is, with the page of its station; it is not kept if that does not fit
-abbrev pub Keeps : Outcome → Option Kept → Type 0
-Keeps o None = fits (state_of o.station) ≡ false
-Keeps o (Some k) = (fits (state_of o.station) ≡ true) × (did_of k.outcome ≡ did_of o) × (vec_items k.page ≡ page_bytes (state_of o.station))
+abbrev pub Keeps : Outcome → Result Kept Unwritten → Type 0
+Keeps o r =
+    MatchResult r (λ k. (fits (state_of o.station) ≡ true) × (did_of k.outcome ≡ did_of o) × (vec_items k.page ≡ page_bytes (state_of o.station)))
+    (λ e. WhyUnwritten e (fits (state_of o.station)))

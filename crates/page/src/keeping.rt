@@ -1,11 +1,10 @@
 // What is kept after an event.
-ghost use Rattle.std.specs.Prelude.{IfOk};
 ghost use Rattle.page.specs.Serving.{Keeps};
 
 use super::Unwritten;
 use super::writing::write;
 use station::Outcome;
-use std::alloc::{AllocError, Global};
+use std::alloc::Global;
 
 // An outcome, and the page of its station.
 #[derive(Drop)]
@@ -15,12 +14,9 @@ pub struct Kept {
 }
 
 // The page of the station after an event. Where there is none the event has no effect, as if what came had been lost.
-pub fn keep(heap: Global, outcome: Outcome) -> Result<Option<Kept>, AllocError>
-    ensures { IfOk result (Keeps outcome) }
+pub fn keep(heap: Global, outcome: Outcome) -> Result<Kept, Unwritten>
+    ensures { Keeps outcome result }
 {
-    match write(heap, &outcome.station) {
-        Ok(page) => Ok(Some(Kept { outcome, page })),
-        Err(Unwritten::Full) => Ok(None),
-        Err(Unwritten::Memory) => Err(AllocError),
-    }
+    let page = write(heap, &outcome.station)?;
+    Ok(Kept { outcome, page })
 }

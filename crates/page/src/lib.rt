@@ -2,13 +2,17 @@
 #![tactic(auto)]
 
 mod fields;
+mod from_page;
 mod keeping;
 mod laws;
+mod links;
+mod messages;
 mod reading;
 mod reasons;
 mod serving;
 #[cfg(test)]
 mod tests;
+mod to_page;
 mod writing;
 
 pub use keeping::{Kept, keep};

@@ -18,20 +18,14 @@ fn is_line(link: &Link, weight: u32, neighbour: Neighbour) -> bool
     link.neighbour == neighbour.node && weight == neighbour.weight
 }
 
+// Is each line as it should be? Of links and neighbours there are as many.
 fn lines(station: &Station, neighbours: &[Neighbour]) -> bool
-    requires { (length station.now.links.items ≡ length neighbours.now) × (length neighbours.now ≤ 16) }
+    requires links { length station.now.links.items ≡ length neighbours.now }
+    requires few { length neighbours.now ≤ 16 }
     ensures { result ≡ lines_below (state_of station.now) neighbours.now (length neighbours.now) }
 {
-    for (place, neighbour) in neighbours.iter().enumerate() {
-        if !is_line(
-            &station.links[place],
-            station.node.weights[place],
-            *neighbour,
-        ) {
-            return false;
-        }
-    }
-    true
+    let links = station.links.iter().zip(&station.node.weights);
+    links.zip(neighbours).all(|((link, weight), neighbour)| is_line(link, *weight, *neighbour))
 }
 
 // Is it the station of this number, with a line to each of these neighbours, in order, and no other?

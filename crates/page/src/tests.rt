@@ -1,10 +1,10 @@
-// A page that comes back, and bytes that are no page.
-use super::{read, serves, write};
+// A page that comes back, bytes that are no page, and what is kept.
+use super::{Unwritten, keep, read, serves, write};
 use graph::edge::Neighbour;
 use link::Link;
-use message::{Message, Outgoing, seal};
+use message::{Message, seal};
 use node::{Best, Mark, Node, Status};
-use station::Station;
+use station::{Outcome, Station};
 use std::alloc::{AllocError, Global};
 use std::test::Fail;
 
@@ -30,26 +30,14 @@ const OTHER_LINES: [Neighbour; 2] = [
     },
 ];
 
-// Station 261, with messages waiting both ways.
-fn sample(heap: Global) -> Result<Station, AllocError> {
-    let mut first = Link::new(heap, 3);
-    first.give(Message::Test {
-        level: 1,
-        name: 0x0102_0304,
-    })?;
-    first.give(Message::Change)?;
-    let mut second = Link::new(heap, 9);
-    second.acknowledged = 65_536;
-    second.taken = 4_294_967_295;
-    second.inbox.push_back(Message::Report {
-        best: Outgoing::Weight(500),
-    })?;
+// A node that searches, with two edges.
+fn sample_node() -> Node {
     let mut weights = [0; 16];
     weights[0] = 1_000_000;
     weights[1] = 70_000;
     let mut marks = [Mark::Basic; 16];
     marks[0] = Mark::Branch;
-    let node = Node {
+    Node {
         status: Status::Find,
         edges: 2,
         weights,
@@ -64,21 +52,32 @@ fn sample(heap: Global) -> Result<Station, AllocError> {
         },
         testing: Some(1),
         halted: false,
-    };
+    }
+}
+
+// Station 261, with messages waiting both ways.
+fn sample(heap: Global) -> Result<Station, AllocError> {
+    let mut first = Link::new(heap, 3);
+    first.give(Message::Test {
+        level: 1,
+        name: 0x0102_0304,
+    })?;
+    first.give(Message::Change)?;
+    let mut second = Link::new(heap, 9);
+    second.acknowledged = 65_536;
+    second.taken = 4_294_967_295;
+    second.inbox.push_back(Message::Report { best: Some(500) })?;
     let links = vec![in heap; first, second]?;
     Ok(Station {
         number: 261,
-        node,
+        node: sample_node(),
         links,
     })
 }
 
 fn sample_page(heap: Global) -> Result<Vec<u8>, Fail> {
     let station = sample(heap)?;
-    match write(heap, &station) {
-        Ok(page) => Ok(page),
-        Err(_) => Err(Fail::new("not written")),
-    }
+    write(heap, &station).map_err(|_| Fail::new("not written"))
 }
 
 #[test]
@@ -120,14 +119,42 @@ fn another_version_is_refused_by_6(rt: HostRuntime) -> Result<(), Fail> {
         *version = 2;
     }
     let page = seal(body)?;
-    match read(rt.alloc(), &page) {
-        Ok(_) => Err(Fail::new("read")),
-        Err(unread) => match unread.refusal() {
-            Some(refusal) => {
-                assert!(rt; refusal.number() == 6);
-                Ok(())
-            },
-            None => Err(Fail::new("no memory")),
-        },
+    let Err(unread) = read(rt.alloc(), &page) else {
+        return Err(Fail::new("read"));
+    };
+    let Some(refusal) = unread.refusal() else {
+        return Err(Fail::new("no memory"));
+    };
+    assert!(rt; refusal.number() == 6);
+    Ok(())
+}
+
+fn outcome_of(heap: Global, station: Station) -> Outcome {
+    Outcome {
+        station,
+        sends: Vec::new(heap),
+        refusals: Vec::new(heap),
     }
+}
+
+#[test]
+fn an_outcome_is_kept_with_its_page(rt: HostRuntime) -> Result<(), Fail> {
+    let outcome = outcome_of(rt.alloc(), sample(rt.alloc())?);
+    let Ok(kept) = keep(rt.alloc(), outcome) else {
+        return Err(Fail::new("not kept"));
+    };
+    assert!(rt; kept.page.as_slice() == sample_page(rt.alloc())?.as_slice());
+    assert!(rt; kept.outcome.station.number == 261);
+    Ok(())
+}
+
+#[test]
+fn what_does_not_fit_is_not_kept(rt: HostRuntime) -> Result<(), Fail> {
+    let mut station = sample(rt.alloc())?;
+    station.number = 65_536;
+    let Err(unwritten) = keep(rt.alloc(), outcome_of(rt.alloc(), station)) else {
+        return Err(Fail::new("kept"));
+    };
+    assert!(rt; matches!(unwritten, Unwritten::Full));
+    Ok(())
 }

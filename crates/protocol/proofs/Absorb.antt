@@ -3,7 +3,7 @@ use Rattle.std.proofs.Common.{◌≡◌, ℕ, ◌+◌, ◌<◌, ◌≤◌, cond,
 use Rattle.message.specs.declared.messages.Message.{Message}
 use Rattle.message.specs.declared.messages.Message.TheVariants.{Connect, Initiate}
 use Rattle.node.specs.declared.state.Status.TheVariants.{Sleeping}
-use Rattle.node.specs.declared.state.Mark.TheVariants.{Basic, Branch}
+use Rattle.graph.specs.declared.mark.Mark.TheVariants.{Basic, Branch}
 use Rattle.node.specs.Rules.{is_find, phase_of}
 use Rattle.protocol.proofs.Ghost.{View, absorb, merge, follow, acted}
 use Rattle.protocol.proofs.Held.{Held, marking, counting}

@@ -1,8 +1,6 @@
 -- When the core of a fragment decides, all who were asked have reported, of nothing lighter than its two ends.
-use Rattle.std.proofs.Common.{◌≡◌, ℕ, zero, suc, ◌<◌, true, false, ◌⊎◌, List, Some, sym, refl, ◌∙◌, inl, inr, arith}
+use Rattle.std.proofs.Common.{◌≡◌, ℕ, zero, suc, ◌<◌, true, false, ◌⊎◌, List, Some, sym, refl, ◌∙◌, inl, inr, arith, None, Option}
 use Rattle.message.specs.declared.messages.Message.{Message}
-use Rattle.message.specs.declared.messages.Outgoing.{Outgoing}
-use Rattle.message.specs.declared.messages.Outgoing.TheVariants.{Nothing, Weight}
 use Rattle.node.specs.declared.state.Status.TheVariants.{Find}
 use Rattle.node.specs.Rules.{lighter}
 use Rattle.graph.specs.Graph.{Graph, Edge, Weights}
@@ -10,20 +8,20 @@ use Rattle.protocol.proofs.Ghost.{undecided, View}
 use Rattle.protocol.proofs.Mode.{tells, Heard, Mode, free, offered, offers, crossing, took, taken, merged, ahead, behind, core, told, above, below, Sane}
 
 -- it has reported, in the present search, of nothing lighter than w
-abbrev pub Done : Outgoing → View → Type 0
+abbrev pub Done : Option ℕ → View → Type 0
 Done w V = (V.held.level ≡ V.fragment.level) × (V.own.reported ≡ true) × (lighter V.held.best_weight w ≡ false)
 
 -- lighter is an order
-pub lighter_trans : (a b c : Outgoing) → lighter a b ≡ false → lighter b c ≡ false → lighter a c ≡ false
-lighter_trans Nothing b c u v = refl
-lighter_trans (Weight a) Nothing c u v = absurd (grind arith)
-lighter_trans (Weight a) (Weight b) Nothing u v = absurd (grind arith)
-lighter_trans (Weight a) (Weight b) (Weight c) u v = grind arith
+pub lighter_trans : (a b c : Option ℕ) → lighter a b ≡ false → lighter b c ≡ false → lighter a c ≡ false
+lighter_trans None b c u v = refl
+lighter_trans (Some a) None c u v = absurd (grind arith)
+lighter_trans (Some a) (Some b) None u v = absurd (grind arith)
+lighter_trans (Some a) (Some b) (Some c) u v = grind arith
 
 module _ (t : Graph) (weights : Weights t) (V : ℕ → View) (i j : ℕ) (line : Edge t i j)
     (fragment : (v : ℕ) → (V v).own.label ≡ (V i).own.label → (V v).fragment ≡ (V i).fragment)
     (looked : (V i).fragment.least ≡ undecided) (name : (V i).fragment.name ≡ t.weight i j)
-    (stillI : (V i).own.changed ≡ false) (stillJ : (V j).own.changed ≡ false) (low : Outgoing) (doneI : Done low (V i)) (doneJ : Done low (V j)) where
+    (stillI : (V i).own.changed ≡ false) (stillJ : (V j).own.changed ≡ false) (low : Option ℕ) (doneI : Done low (V i)) (doneJ : Done low (V j)) where
   -- the core is the edge whose weight is the name
   middle : (v p : ℕ) → Edge t v p → t.weight v p ≡ t.weight i j → (((v ≡ i) × (p ≡ j)) ⊎ ((v ≡ j) × (p ≡ i)))
   middle v p l e = weights.differ v p i j l line e

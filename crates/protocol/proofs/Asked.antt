@@ -3,13 +3,11 @@ use Rattle.std.proofs.Common.{◌≡◌, ℕ, ◌+◌, ◌≤◌, true, T, eqb, 
 use Rattle.std.proofs.lemmas.Bool.Decides.{eqb_tells}
 use Rattle.message.specs.declared.messages.Message.{Message}
 use Rattle.message.specs.declared.messages.Message.TheVariants.{Connect, Initiate, Test, Accept, Reject, Report, Change}
-use Rattle.message.specs.declared.messages.Outgoing.{Outgoing}
-use Rattle.message.specs.declared.messages.Outgoing.TheVariants.{Nothing, Weight}
 use Rattle.message.specs.declared.messages.Phase.{Phase}
 use Rattle.node.specs.declared.state.Status.{Status}
 use Rattle.node.specs.declared.state.Status.TheVariants.{Sleeping, Find}
-use Rattle.node.specs.declared.state.Mark.{Mark}
-use Rattle.node.specs.declared.state.Mark.TheVariants.{Basic, Branch, Rejected}
+use Rattle.graph.specs.declared.mark.Mark.{Mark}
+use Rattle.graph.specs.declared.mark.Mark.TheVariants.{Basic, Branch, Rejected}
 use Rattle.node.specs.Rules.{is_basic, phase_of}
 use Rattle.graph.specs.Graph.{Graph}
 use Rattle.protocol.proofs.Control.{control1}
@@ -37,11 +35,11 @@ tst_else y k m d = ap asks (to_other y k m d)
 ans_else : (y k : ℕ) (m : Message) → (k ≡ y → ⊥) → replies (out_to y (one k m)) ≡ []
 ans_else y k m d = ap replies (to_other y k m d)
 
-tst_report : (y : ℕ) (w : Option ℕ) (r : Outgoing) → asks (out_to y (send_to w (Report r))) ≡ []
+tst_report : (y : ℕ) (w : Option ℕ) (r : Option ℕ) → asks (out_to y (send_to w (Report r))) ≡ []
 tst_report y None r = refl
 tst_report y (Some k) r = tst_one y k (Report r) refl
 
-ans_report : (y : ℕ) (w : Option ℕ) (r : Outgoing) → replies (out_to y (send_to w (Report r))) ≡ []
+ans_report : (y : ℕ) (w : Option ℕ) (r : Option ℕ) → replies (out_to y (send_to w (Report r))) ≡ []
 ans_report y None r = refl
 ans_report y (Some k) r = ans_one y k (Report r) refl
 
@@ -81,14 +79,14 @@ talk_over {t} {i} {y} {A} {B} {p = p} {q} {T} {S} {U} {R} k0 k1 ft (Absorbs {l} 
 talk_over {t} {i} {y} {A} {B} {p = p} {q} {T} {S} {U} {R} k0 k1 ft (Merges {l} c1 c2) e tk = let o = is_merging c1 c2 e in silent (tst_one y y (Initiate (A.held.level + 1) (t.weight i y) phase.Find) refl) (ans_one y y (Initiate (A.held.level + 1) (t.weight i y) phase.Find) refl) (over_merge k1 o.0 o.1 o.2 o.3 refl refl tk)
 talk_over {t} {i} {y} {A} {B} {p = p} {q} {T} {S} {U} {R} k0 k1 ft (Begins {l} {f} {s} c1) e tk = let b = head_begin {l = l} {f = f} {s = s} k1.theirs k1.same e in let st : A.held.level ≡ A.fragment.level → ⊥ = λ u. let r = b.rises in let o = b.top in grind arith in let lv : A.held.level ≤ l = let r = b.rises in grind arith in silent (tst_onward A.held y l f s t.count y [] ∙ refl) (ans_onward A.held y l f s t.count y [] ∙ refl) (rises' k1 st e refl lv refl (not_asking k1.asks_a (λ u. st (k1.mine.find_current u))) (grind arith) tk)
 talk_over {t} {i} {y} {A} {B} {p = p} {q} {T} {S} {U} {R} k0 k1 ft (Searches-ask {l} {f} k c1) e tk = let b = head_begin {l = l} {f = f} {s = phase.Find} k1.theirs k1.same e in let st : A.held.level ≡ A.fragment.level → ⊥ = λ u. let r = b.rises in let o = b.top in grind arith in let lv : A.held.level ≤ l = let r = b.rises in grind arith in let ne : k ≡ y → ⊥ = λ u. let z = open_is (A.held.mark k) c1.picked in let o = b.branch in grind arith in silent (tst_onward A.held y l f phase.Find t.count y (one k (Test l f)) ∙ tst_else y k (Test l f) ne) (ans_onward A.held y l f phase.Find t.count y (one k (Test l f)) ∙ ans_else y k (Test l f) ne) (rises' k1 st e refl lv refl (λ u. ne (grind arith)) (grind arith) tk)
-talk_over {t} {i} {y} {A} {B} {p = p} {q} {T} {S} {U} {R} k0 k1 ft (Searches-report {l} {f} c1 c2 c3) e tk = let b = head_begin {l = l} {f = f} {s = phase.Find} k1.theirs k1.same e in let st : A.held.level ≡ A.fragment.level → ⊥ = λ u. let r = b.rises in let o = b.top in grind arith in let lv : A.held.level ≤ l = let r = b.rises in grind arith in silent (tst_onward A.held y l f phase.Find t.count y (one y (Report Nothing)) ∙ tst_one y y (Report Nothing) refl) (ans_onward A.held y l f phase.Find t.count y (one y (Report Nothing)) ∙ ans_one y y (Report Nothing) refl) (rises' k1 st e refl lv refl (λ u. grind arith) (grind arith) tk)
+talk_over {t} {i} {y} {A} {B} {p = p} {q} {T} {S} {U} {R} k0 k1 ft (Searches-report {l} {f} c1 c2 c3) e tk = let b = head_begin {l = l} {f = f} {s = phase.Find} k1.theirs k1.same e in let st : A.held.level ≡ A.fragment.level → ⊥ = λ u. let r = b.rises in let o = b.top in grind arith in let lv : A.held.level ≤ l = let r = b.rises in grind arith in silent (tst_onward A.held y l f phase.Find t.count y (one y (Report None)) ∙ tst_one y y (Report None) refl) (ans_onward A.held y l f phase.Find t.count y (one y (Report None)) ∙ ans_one y y (Report None) refl) (rises' k1 st e refl lv refl (λ u. grind arith) (grind arith) tk)
 talk_over {t} {i} {y} {A} {B} {p = p} {q} {T} {S} {U} {R} k0 k1 ft (Searches-wait {l} {f} c1 c2) e tk = let b = head_begin {l = l} {f = f} {s = phase.Find} k1.theirs k1.same e in let st : A.held.level ≡ A.fragment.level → ⊥ = λ u. let r = b.rises in let o = b.top in grind arith in let lv : A.held.level ≤ l = let r = b.rises in grind arith in silent (tst_onward A.held y l f phase.Find t.count y [] ∙ refl) (ans_onward A.held y l f phase.Find t.count y [] ∙ refl) (rises' k1 st e refl lv refl (λ u. grind arith) (grind arith) tk)
 talk_over {t} {i} {y} {A} {B} {p = p} {q} {T} {S} {U} {R} k0 k1 ft (Accepts {l} {f} c1 c2) e tk = says R Accept (tst_one y y Accept refl) (ap replies (to_self y Accept)) (over_accepts k1 (grind arith) (grind arith) c1 c2 e tk)
 talk_over {t} {i} {y} {A} {B} {p = p} {q} {T} {S} {U} {R} k0 k1 ft (Rejects {l} {f} c1 c2 c3) e tk = says R Reject (tst_one y y Reject refl) (ap replies (to_self y Reject)) (over_rejects k1 (grind arith) (grind arith) ft c2 c3 e tk)
 talk_over {t} {i} {y} {A} {B} {p = p} {q} {T} {S} {U} {R} k0 k1 ft (Crosses-ask {l} {f} k c1 c2 c3 c4) e tk = let pk = picked A.held y k c4.picked in silent (tst_else y k (Test A.held.level A.held.name) pk) (ans_else y k (Test A.held.level A.held.name) pk) (over_crosses k1 (grind arith) (grind arith) ft c1 c2 c3 e tk)
 talk_over {t} {i} {y} {A} {B} {p = p} {q} {T} {S} {U} {R} k0 k1 ft (Crosses-report {l} {f} c1 c2 c3 c4 c5 c6) e tk = silent (tst_report y A.held.parent A.held.best_weight) (ans_report y A.held.parent A.held.best_weight) (over_crosses k1 (grind arith) (grind arith) ft c1 c2 c3 e tk)
 talk_over {t} {i} {y} {A} {B} {p = p} {q} {T} {S} {U} {R} k0 k1 ft (Crosses-wait {l} {f} c1 c2 c3 c4 c5) e tk = silent refl refl (over_crosses k1 (grind arith) (grind arith) ft c1 c2 c3 e tk)
-talk_over {t} {i} {y} {A} {B} {p = p} {q} {T} {S} {U} {R} k0 k1 ft (Accepted-report c1 c2) e tk = silent (tst_report y A.held.parent (bettering y (Weight (t.weight i y)) (testing_now None A.held)).best_weight) (ans_report y A.held.parent (bettering y (Weight (t.weight i y)) (testing_now None A.held)).best_weight) (over_yes (λ u. grind arith) refl refl refl (grind arith) e tk)
+talk_over {t} {i} {y} {A} {B} {p = p} {q} {T} {S} {U} {R} k0 k1 ft (Accepted-report c1 c2) e tk = silent (tst_report y A.held.parent (bettering y (Some (t.weight i y)) (testing_now None A.held)).best_weight) (ans_report y A.held.parent (bettering y (Some (t.weight i y)) (testing_now None A.held)).best_weight) (over_yes (λ u. grind arith) refl refl refl (grind arith) e tk)
 talk_over {t} {i} {y} {A} {B} {p = p} {q} {T} {S} {U} {R} k0 k1 ft (Accepted-wait c1) e tk = silent refl refl (over_yes (λ u. grind arith) refl refl refl (grind arith) e tk)
 talk_over {t} {i} {y} {A} {B} {p = p} {q} {T} {S} {U} {R} k0 k1 ft (Rejected-ask k c1) e tk = let pk = picked A.held y k c1.picked in silent (tst_else y k (Test A.held.level A.held.name) pk) (ans_else y k (Test A.held.level A.held.name) pk) (over_no (grind arith) (grind arith) tk)
 talk_over {t} {i} {y} {A} {B} {p = p} {q} {T} {S} {U} {R} k0 k1 ft (Rejected-report c1 c2 c3) e tk = silent (tst_report y A.held.parent A.held.best_weight) (ans_report y A.held.parent A.held.best_weight) (over_no (grind arith) (grind arith) tk)
@@ -142,14 +140,14 @@ talk_beside {t} {i} {y} {j} {A} {B} {J} {p = p} {q} {pj} {qj} {T} {S} {U} {R} k0
 talk_beside {t} {i} {y} {j} {A} {B} {J} {p = p} {q} {pj} {qj} {T} {S} {U} {R} k0 k1 kj aj ne lab ej (Merges {l} c1 c2) e tk = let nj : j ≡ y → ⊥ = λ u. ne (sym u) in silent (tst_one y j (Initiate (A.held.level + 1) (t.weight i j) phase.Find) refl) (ans_one y j (Initiate (A.held.level + 1) (t.weight i j) phase.Find) refl) (elim (head_merge c1 c2 ej) [ inl a ↦ keep (record { a = grind arith; b = grind arith; same = λ u. grind arith; differ_a = λ u1 u2 u3 u4. (let z = k1.mine.find_undecided (asks_seeks k1.asks_a u1) in let o = a.least_a in grind arith); differ_b = λ u1 u2 u3 u4. apart_merge (t.weight i j) B A A J (k1.theirs.find_undecided (asks_seeks k1.asks_b u1)) lab.bc lab.bj a.least_a a.least (λ z. u3 (sym z)) (sym u4) }) tk | inr o ↦ let oe : eqb A.own.label J.own.label ≡ true = grind arith in keep (record { a = grind arith; b = grind arith; same = λ u. grind arith; differ_a = λ u1 u2 u3 u4. grind arith; differ_b = λ u1 u2 u3 u4. grind arith }) tk ])
 talk_beside {t} {i} {y} {j} {A} {B} {J} {p = p} {q} {pj} {qj} {T} {S} {U} {R} k0 k1 kj aj ne lab ej (Begins {l} {f} {s} c1) e tk = let nj : j ≡ y → ⊥ = λ u. ne (sym u) in let b = head_begin {l = l} {f = f} {s = s} kj.theirs kj.same ej in let st : A.held.level ≡ A.fragment.level → ⊥ = λ u. let r = b.rises in let o = b.top in grind arith in let lv : A.held.level ≤ l = let r = b.rises in grind arith in let nt : A.held.testing ≡ Some y → ⊥ = not_asking k1.asks_a (λ u. st (k1.mine.find_current u)) in silent (tst_onward A.held j l f s t.count y [] ∙ refl) (ans_onward A.held j l f s t.count y [] ∙ refl) (rises' k1 st e refl lv refl nt (grind arith) tk)
 talk_beside {t} {i} {y} {j} {A} {B} {J} {p = p} {q} {pj} {qj} {T} {S} {U} {R} k0 k1 kj aj ne lab ej (Searches-ask {l} {f} k c1) e tk = let nj : j ≡ y → ⊥ = λ u. ne (sym u) in let b = head_begin {l = l} {f = f} {s = phase.Find} kj.theirs kj.same ej in let st : A.held.level ≡ A.fragment.level → ⊥ = λ u. let r = b.rises in let o = b.top in grind arith in let lv : A.held.level ≤ l = let r = b.rises in grind arith in let nt : A.held.testing ≡ Some y → ⊥ = not_asking k1.asks_a (λ u. st (k1.mine.find_current u)) in elim (eqb_tells k y) [ inl u ↦ let mk : A.held.mark y ≡ Basic = subst (λ z. A.held.mark z ≡ Basic) u.1 (open_is (A.held.mark k) c1.picked) in puts T (Test l f) (tst_onward A.held j l f phase.Find t.count y (one k (Test l f)) ∙ tst_here y k l f u.1) (ans_onward A.held j l f phase.Find t.count y (one k (Test l f)) ∙ ans_one y k (Test l f) refl) (newly nt mk refl lv refl (ap Some u.1) (λ z. ne (grind arith)) (grind arith) tk) | inr u ↦ silent (tst_onward A.held j l f phase.Find t.count y (one k (Test l f)) ∙ tst_else y k (Test l f) u.1) (ans_onward A.held j l f phase.Find t.count y (one k (Test l f)) ∙ ans_one y k (Test l f) refl) (rises' k1 st e refl lv refl (λ z. u.1 (grind arith)) (grind arith) tk) ]
-talk_beside {t} {i} {y} {j} {A} {B} {J} {p = p} {q} {pj} {qj} {T} {S} {U} {R} k0 k1 kj aj ne lab ej (Searches-report {l} {f} c1 c2 c3) e tk = let nj : j ≡ y → ⊥ = λ u. ne (sym u) in let b = head_begin {l = l} {f = f} {s = phase.Find} kj.theirs kj.same ej in let st : A.held.level ≡ A.fragment.level → ⊥ = λ u. let r = b.rises in let o = b.top in grind arith in let lv : A.held.level ≤ l = let r = b.rises in grind arith in let nt : A.held.testing ≡ Some y → ⊥ = not_asking k1.asks_a (λ u. st (k1.mine.find_current u)) in silent (tst_onward A.held j l f phase.Find t.count y (one j (Report Nothing)) ∙ tst_one y j (Report Nothing) refl) (ans_onward A.held j l f phase.Find t.count y (one j (Report Nothing)) ∙ ans_one y j (Report Nothing) refl) (rises' k1 st e refl lv refl (λ u. grind arith) (grind arith) tk)
+talk_beside {t} {i} {y} {j} {A} {B} {J} {p = p} {q} {pj} {qj} {T} {S} {U} {R} k0 k1 kj aj ne lab ej (Searches-report {l} {f} c1 c2 c3) e tk = let nj : j ≡ y → ⊥ = λ u. ne (sym u) in let b = head_begin {l = l} {f = f} {s = phase.Find} kj.theirs kj.same ej in let st : A.held.level ≡ A.fragment.level → ⊥ = λ u. let r = b.rises in let o = b.top in grind arith in let lv : A.held.level ≤ l = let r = b.rises in grind arith in let nt : A.held.testing ≡ Some y → ⊥ = not_asking k1.asks_a (λ u. st (k1.mine.find_current u)) in silent (tst_onward A.held j l f phase.Find t.count y (one j (Report None)) ∙ tst_one y j (Report None) refl) (ans_onward A.held j l f phase.Find t.count y (one j (Report None)) ∙ ans_one y j (Report None) refl) (rises' k1 st e refl lv refl (λ u. grind arith) (grind arith) tk)
 talk_beside {t} {i} {y} {j} {A} {B} {J} {p = p} {q} {pj} {qj} {T} {S} {U} {R} k0 k1 kj aj ne lab ej (Searches-wait {l} {f} c1 c2) e tk = let nj : j ≡ y → ⊥ = λ u. ne (sym u) in let b = head_begin {l = l} {f = f} {s = phase.Find} kj.theirs kj.same ej in let st : A.held.level ≡ A.fragment.level → ⊥ = λ u. let r = b.rises in let o = b.top in grind arith in let lv : A.held.level ≤ l = let r = b.rises in grind arith in let nt : A.held.testing ≡ Some y → ⊥ = not_asking k1.asks_a (λ u. st (k1.mine.find_current u)) in silent (tst_onward A.held j l f phase.Find t.count y [] ∙ refl) (ans_onward A.held j l f phase.Find t.count y [] ∙ refl) (rises' k1 st e refl lv refl (λ u. grind arith) (grind arith) tk)
 talk_beside {t} {i} {y} {j} {A} {B} {J} {p = p} {q} {pj} {qj} {T} {S} {U} {R} k0 k1 kj aj ne lab ej (Accepts {l} {f} c1 c2) e tk = let nj : j ≡ y → ⊥ = λ u. ne (sym u) in silent (tst_else y j Accept nj) (ans_else y j Accept nj) (keep (record { a = grind arith; b = grind arith; same = λ u. grind arith; differ_a = λ u1 u2 u3 u4. grind arith; differ_b = λ u1 u2 u3 u4. grind arith }) tk)
 talk_beside {t} {i} {y} {j} {A} {B} {J} {p = p} {q} {pj} {qj} {T} {S} {U} {R} k0 k1 kj aj ne lab ej (Rejects {l} {f} c1 c2 c3) e tk = let nj : j ≡ y → ⊥ = λ u. ne (sym u) in silent (tst_else y j Reject nj) (ans_else y j Reject nj) (keep (record { a = grind arith; b = grind arith; same = λ u. grind arith; differ_a = λ u1 u2 u3 u4. grind arith; differ_b = λ u1 u2 u3 u4. grind arith }) tk)
 talk_beside {t} {i} {y} {j} {A} {B} {J} {p = p} {q} {pj} {qj} {T} {S} {U} {R} k0 k1 kj aj ne lab ej (Crosses-ask {l} {f} k c1 c2 c3 c4) e tk = let nj : j ≡ y → ⊥ = λ u. ne (sym u) in let tj : A.held.testing ≡ Some j = c3 in let nt : A.held.testing ≡ Some y → ⊥ = λ u. nj (grind arith) in elim (eqb_tells k y) [ inl u ↦ let mk : A.held.mark y ≡ Basic = subst (λ z. A.held.mark z ≡ Basic) u.1 (open_else A.held j k c4.picked) in puts T (Test A.held.level A.held.name) (tst_here y k A.held.level A.held.name u.1) (ans_one y k (Test A.held.level A.held.name) refl) (newly nt mk (grind arith) (grind arith) refl (ap Some u.1) (λ z. let o = k1.mine.up_branch z in grind arith) (grind arith) tk) | inr u ↦ silent (tst_else y k (Test A.held.level A.held.name) u.1) (ans_else y k (Test A.held.level A.held.name) u.1) (keep (record { a = record { mark = grind arith; level = grind arith; mine = inl (nt, λ z. u.1 (grind arith)); left = inr (refl, refl) }; b = grind arith; same = λ u. grind arith; differ_a = λ u1 u2 u3 u4. grind arith; differ_b = λ u1 u2 u3 u4. grind arith }) tk) ]
 talk_beside {t} {i} {y} {j} {A} {B} {J} {p = p} {q} {pj} {qj} {T} {S} {U} {R} k0 k1 kj aj ne lab ej (Crosses-report {l} {f} c1 c2 c3 c4 c5 c6) e tk = let nj : j ≡ y → ⊥ = λ u. ne (sym u) in let tj : A.held.testing ≡ Some j = c3 in let nt : A.held.testing ≡ Some y → ⊥ = λ u. nj (grind arith) in silent (tst_report y A.held.parent A.held.best_weight) (ans_report y A.held.parent A.held.best_weight) (keep (record { a = record { mark = grind arith; level = grind arith; mine = inl (nt, λ u. grind arith); left = inr (refl, refl) }; b = grind arith; same = λ u. grind arith; differ_a = λ u1 u2 u3 u4. grind arith; differ_b = λ u1 u2 u3 u4. grind arith }) tk)
 talk_beside {t} {i} {y} {j} {A} {B} {J} {p = p} {q} {pj} {qj} {T} {S} {U} {R} k0 k1 kj aj ne lab ej (Crosses-wait {l} {f} c1 c2 c3 c4 c5) e tk = let nj : j ≡ y → ⊥ = λ u. ne (sym u) in let tj : A.held.testing ≡ Some j = c3 in let nt : A.held.testing ≡ Some y → ⊥ = λ u. nj (grind arith) in silent refl refl (keep (record { a = record { mark = grind arith; level = grind arith; mine = inl (nt, λ u. grind arith); left = inr (refl, refl) }; b = grind arith; same = λ u. grind arith; differ_a = λ u1 u2 u3 u4. grind arith; differ_b = λ u1 u2 u3 u4. grind arith }) tk)
-talk_beside {t} {i} {y} {j} {A} {B} {J} {p = p} {q} {pj} {qj} {T} {S} {U} {R} k0 k1 kj aj ne lab ej (Accepted-report c1 c2) e tk = let nj : j ≡ y → ⊥ = λ u. ne (sym u) in let tj : A.held.testing ≡ Some j = aj in let nt : A.held.testing ≡ Some y → ⊥ = λ u. nj (grind arith) in silent (tst_report y A.held.parent (bettering j (Weight (t.weight i j)) (testing_now None A.held)).best_weight) (ans_report y A.held.parent (bettering j (Weight (t.weight i j)) (testing_now None A.held)).best_weight) (keep (record { a = record { mark = grind arith; level = grind arith; mine = inl (nt, λ u. grind arith); left = inr (refl, refl) }; b = grind arith; same = λ u. grind arith; differ_a = λ u1 u2 u3 u4. grind arith; differ_b = λ u1 u2 u3 u4. grind arith }) tk)
+talk_beside {t} {i} {y} {j} {A} {B} {J} {p = p} {q} {pj} {qj} {T} {S} {U} {R} k0 k1 kj aj ne lab ej (Accepted-report c1 c2) e tk = let nj : j ≡ y → ⊥ = λ u. ne (sym u) in let tj : A.held.testing ≡ Some j = aj in let nt : A.held.testing ≡ Some y → ⊥ = λ u. nj (grind arith) in silent (tst_report y A.held.parent (bettering j (Some (t.weight i j)) (testing_now None A.held)).best_weight) (ans_report y A.held.parent (bettering j (Some (t.weight i j)) (testing_now None A.held)).best_weight) (keep (record { a = record { mark = grind arith; level = grind arith; mine = inl (nt, λ u. grind arith); left = inr (refl, refl) }; b = grind arith; same = λ u. grind arith; differ_a = λ u1 u2 u3 u4. grind arith; differ_b = λ u1 u2 u3 u4. grind arith }) tk)
 talk_beside {t} {i} {y} {j} {A} {B} {J} {p = p} {q} {pj} {qj} {T} {S} {U} {R} k0 k1 kj aj ne lab ej (Accepted-wait c1) e tk = let nj : j ≡ y → ⊥ = λ u. ne (sym u) in let tj : A.held.testing ≡ Some j = aj in let nt : A.held.testing ≡ Some y → ⊥ = λ u. nj (grind arith) in silent refl refl (keep (record { a = record { mark = grind arith; level = grind arith; mine = inl (nt, λ u. grind arith); left = inr (refl, refl) }; b = grind arith; same = λ u. grind arith; differ_a = λ u1 u2 u3 u4. grind arith; differ_b = λ u1 u2 u3 u4. grind arith }) tk)
 talk_beside {t} {i} {y} {j} {A} {B} {J} {p = p} {q} {pj} {qj} {T} {S} {U} {R} k0 k1 kj aj ne lab ej (Rejected-ask k c1) e tk = let nj : j ≡ y → ⊥ = λ u. ne (sym u) in let tj : A.held.testing ≡ Some j = aj in let nt : A.held.testing ≡ Some y → ⊥ = λ u. nj (grind arith) in elim (eqb_tells k y) [ inl u ↦ let mk : A.held.mark y ≡ Basic = subst (λ z. A.held.mark z ≡ Basic) u.1 (open_else A.held j k c1.picked) in puts T (Test A.held.level A.held.name) (tst_here y k A.held.level A.held.name u.1) (ans_one y k (Test A.held.level A.held.name) refl) (newly nt mk (grind arith) (grind arith) refl (ap Some u.1) (λ z. let o = k1.mine.up_branch z in grind arith) (grind arith) tk) | inr u ↦ silent (tst_else y k (Test A.held.level A.held.name) u.1) (ans_else y k (Test A.held.level A.held.name) u.1) (keep (record { a = record { mark = grind arith; level = grind arith; mine = inl (nt, λ z. u.1 (grind arith)); left = inr (refl, refl) }; b = grind arith; same = λ u. grind arith; differ_a = λ u1 u2 u3 u4. grind arith; differ_b = λ u1 u2 u3 u4. grind arith }) tk) ]
 talk_beside {t} {i} {y} {j} {A} {B} {J} {p = p} {q} {pj} {qj} {T} {S} {U} {R} k0 k1 kj aj ne lab ej (Rejected-report c1 c2 c3) e tk = let nj : j ≡ y → ⊥ = λ u. ne (sym u) in let tj : A.held.testing ≡ Some j = aj in let nt : A.held.testing ≡ Some y → ⊥ = λ u. nj (grind arith) in silent (tst_report y A.held.parent A.held.best_weight) (ans_report y A.held.parent A.held.best_weight) (keep (record { a = record { mark = grind arith; level = grind arith; mine = inl (nt, λ u. grind arith); left = inr (refl, refl) }; b = grind arith; same = λ u. grind arith; differ_a = λ u1 u2 u3 u4. grind arith; differ_b = λ u1 u2 u3 u4. grind arith }) tk)

@@ -2,9 +2,8 @@
 use Rattle.std.proofs.Common.{◌≡◌, ℕ, ◌+◌, ◌<◌, Bool, true, false, cond, ◌||◌, eqb, List, [], ◌∷◌, None, sym, refl, ap, ◌∙◌, subst, inl, inr, arith}
 use Rattle.std.proofs.lemmas.Bool.Decides.{eqb_tells}
 use Rattle.message.specs.declared.messages.Message.{Message}
-use Rattle.message.specs.declared.messages.Outgoing.TheVariants.{Nothing}
 use Rattle.node.specs.declared.state.Status.TheVariants.{Sleeping}
-use Rattle.node.specs.declared.state.Mark.TheVariants.{Basic}
+use Rattle.graph.specs.declared.mark.Mark.TheVariants.{Basic}
 use Rattle.graph.specs.Graph.{Graph, Edge, Weights}
 use Rattle.protocol.proofs.Base.{Good}
 use Rattle.protocol.proofs.Deed.{woke, In, got, Deed, Alone, WokeTo, Absorbs, Merges, Begins, Searches-ask, Searches-report, Searches-wait, Accepts, Rejects, Crosses-ask, Crosses-report, Crosses-wait, Accepted-report, Accepted-wait, Rejected-ask, Rejected-report, Rejected-wait, Hears-report, Hears-wait, Decides-passes, Decides-joins, Halts, Rests, Changed-passes, Changed-joins}
@@ -30,7 +29,7 @@ asleep i = record { held = bare; own = first.own i; fragment = first.fragment i 
 
 -- node i once it has woken and found no edge
 abbrev pub isolated : ℕ → View
-isolated i = record { held = woken_held true (λ j. Basic) bare; own = record { label = i; up = None; changed = true; reported = false; in_search = true; rank = 1 }; fragment = record { level = 0; name = 0; least = decided Nothing; sends = i; gets = i } }
+isolated i = record { held = woken_held true (λ j. Basic) bare; own = record { label = i; up = None; changed = true; reported = false; in_search = true; rank = 1 }; fragment = record { level = 0; name = 0; least = decided None; sends = i; gets = i } }
 
 -- who sleeps is as it was made; who is awake and has no edge has halted, alone
 pub record Alones (t : Graph) (n : Lifted) (γ : Ghost) : Type 0 where
@@ -125,13 +124,13 @@ wake_moves : {t : Graph} {i : ℕ} {h g : Held} {os : List Send} (d : Deed t i h
 wake_moves (Alone c1) A J l = refl
 wake_moves (WokeTo k c1) A J l = refl
 
-alone_view : (i : ℕ) (A : View) → A ≡ asleep i → acted (starts i i None Nothing) (woken_held true A.held.mark A.held) A A ≡ isolated i
-alone_view i A e = subst (λ B. acted (starts i i None Nothing) (woken_held true B.held.mark B.held) B B ≡ isolated i) (sym e) done
+alone_view : (i : ℕ) (A : View) → A ≡ asleep i → acted (starts i i None None) (woken_held true A.held.mark A.held) A A ≡ isolated i
+alone_view i A e = subst (λ B. acted (starts i i None None) (woken_held true B.held.mark B.held) B B ≡ isolated i) (sym e) done
   where
     self : eqb i i ≡ true
     self = grind arith
 
-    done : acted (starts i i None Nothing) (woken_held true (λ j. Basic) bare) (asleep i) (asleep i) ≡ isolated i
+    done : acted (starts i i None None) (woken_held true (λ j. Basic) bare) (asleep i) (asleep i) ≡ isolated i
     done = rw self
 
 -- one without an edge wakes

@@ -3,13 +3,11 @@ use Rattle.std.proofs.Common.{◌≡◌, ℕ, zero, suc, ◌+◌, ◌-◌, ◌<�
 use Rattle.std.proofs.lemmas.Bool.Decides.{eqb_tells}
 use Rattle.message.specs.declared.messages.Message.{Message}
 use Rattle.message.specs.declared.messages.Message.TheVariants.{Connect, Initiate, Accept, Reject, Report}
-use Rattle.message.specs.declared.messages.Outgoing.{Outgoing}
-use Rattle.message.specs.declared.messages.Outgoing.TheVariants.{Nothing, Weight}
 use Rattle.message.specs.declared.messages.Phase.{Phase}
 use Rattle.node.specs.declared.state.Status.{Status}
 use Rattle.node.specs.declared.state.Status.TheVariants.{Sleeping, Find, Found}
-use Rattle.node.specs.declared.state.Mark.{Mark}
-use Rattle.node.specs.declared.state.Mark.TheVariants.{Basic, Branch, Rejected}
+use Rattle.graph.specs.declared.mark.Mark.{Mark}
+use Rattle.graph.specs.declared.mark.Mark.TheVariants.{Basic, Branch, Rejected}
 use Rattle.node.specs.Rules.{is_branch, is_find, phase_of, lighter}
 use Rattle.graph.specs.Graph.{Graph}
 use Rattle.protocol.proofs.Chain.{calls_more, down_low}
@@ -96,7 +94,7 @@ pub record SeeksOn (h : Held) (j : ℕ) (g : Held) (os : List Send) : Type 0 whe
   pub parent : g.parent ≡ h.parent
   pub level : g.level ≡ h.level
   pub name : g.name ≡ h.name
-  pub best : (z : Outgoing) → lighter z h.best_weight ≡ false → lighter z g.best_weight ≡ false
+  pub best : (z : Option ℕ) → lighter z h.best_weight ≡ false → lighter z g.best_weight ≡ false
   pub mark : (y : ℕ) → (y ≡ j → ⊥) → is_branch (g.mark y) ≡ is_branch (h.mark y)
   pub silent : (y : ℕ) → (y ≡ j → ⊥) → control (out_to y os) ≡ []
 
@@ -159,7 +157,7 @@ no_merge s f c d (told v) = grind arith
 no_merge s f c d (above v) = grind arith
 no_merge s f c d (below v) = grind arith
 
-pub from_child : {x y w : ℕ} {A B : View} {p q : List Message} {r : Outgoing} → (A.held.parent ≡ Some y → ⊥) → Mode x y w A B p (Report r ∷ q) → Child x y w A B p (Report r ∷ q)
+pub from_child : {x y w : ℕ} {A B : View} {p q : List Message} {r : Option ℕ} → (A.held.parent ≡ Some y → ⊥) → Mode x y w A B p (Report r ∷ q) → Child x y w A B p (Report r ∷ q)
 from_child a (free v) = absurd (grind arith)
 from_child a (offered v) = absurd (grind arith)
 from_child a (offers v) = absurd (grind arith)
@@ -176,7 +174,7 @@ from_child a (above v) = v
 from_child a (below v) = absurd (grind arith)
 
 -- what a child's report says
-pub record ReportOf (h k : Held) (e : Bool) (p q : List Message) (r : Outgoing) : Type 0 where
+pub record ReportOf (h k : Held) (e : Bool) (p q : List Message) (r : Option ℕ) : Type 0 where
   pub out : p ≡ []
   pub back : q ≡ []
   pub level : k.level ≡ h.level
@@ -184,22 +182,22 @@ pub record ReportOf (h k : Held) (e : Bool) (p q : List Message) (r : Outgoing) 
   pub reported : e ≡ true
   pub best : r ≡ k.best_weight
 
-pub tells_of : {x y w : ℕ} {A B : View} {p q : List Message} {r : Outgoing} → Sane y A → A.held.status ≡ Find → Child x y w A B p (Report r ∷ q) → ReportOf A.held B.held B.own.reported p q r
+pub tells_of : {x y w : ℕ} {A B : View} {p q : List Message} {r : Option ℕ} → Sane y A → A.held.status ≡ Find → Child x y w A B p (Report r ∷ q) → ReportOf A.held B.held B.own.reported p q r
 tells_of {x} {y} {w} {A} {B} {p} {q} {r} s f v = let d = down_low x w A.held.level A.held.name A.held.status B.held B.own.reported p v.down in (grind arith)
 
-better_here : (j : ℕ) (r : Outgoing) (h : Held) → lighter r (bettering j r h).best_weight ≡ false
-better_here j Nothing h = (grind arith)
-better_here j (Weight r) h = go h.best_weight refl
+better_here : (j : ℕ) (r : Option ℕ) (h : Held) → lighter r (bettering j r h).best_weight ≡ false
+better_here j None h = (grind arith)
+better_here j (Some r) h = go h.best_weight refl
   where
-    go : (z : Outgoing) → h.best_weight ≡ z → lighter (Weight r) (bettering j (Weight r) h).best_weight ≡ false
-    go Nothing u = (grind arith)
-    go (Weight x) u = (grind arith)
+    go : (z : Option ℕ) → h.best_weight ≡ z → lighter (Some r) (bettering j (Some r) h).best_weight ≡ false
+    go None u = (grind arith)
+    go (Some x) u = (grind arith)
 
-better_than : (r a z : Outgoing) → lighter z a ≡ false → lighter z (cond (lighter r a) r a) ≡ false
-better_than r a Nothing e = (grind arith)
-better_than Nothing a (Weight z) e = (grind arith)
-better_than (Weight r) Nothing (Weight z) e = (grind arith)
-better_than (Weight r) (Weight a) (Weight z) e = (grind arith)
+better_than : (r a z : Option ℕ) → lighter z a ≡ false → lighter z (cond (lighter r a) r a) ≡ false
+better_than r a None e = (grind arith)
+better_than None a (Some z) e = (grind arith)
+better_than (Some r) None (Some z) e = (grind arith)
+better_than (Some r) (Some a) (Some z) e = (grind arith)
 
 pub no_control : (y k : ℕ) (m : Message) → control1 m ≡ [] → control (out_to y (one k m)) ≡ []
 no_control y k m e = elim (eqb_tells k y) [ inl u ↦ rw (u.1, to_self y m) (rw (append-nil (control1 m)) e) | inr u ↦ rw (to_other y k m u.1) ]
@@ -219,7 +217,7 @@ same_mark j h y = go (h.mark y) refl
 abbrev pub Seeks : Held → Type 0
 Seeks h = (h.status ≡ Find) ⊎ ((h.status ≡ Find → ⊥) × (h.find_count ≡ 0))
 
-keeping : {t : Graph} {j : ℕ} {h k : Held} {e : Bool} {m : Message} {p q : List Message} {g : Held} {os : List Send} → Seeks h → g.status ≡ h.status → g.find_count ≡ h.find_count → g.parent ≡ h.parent → g.level ≡ h.level → g.name ≡ h.name → ((z : Outgoing) → lighter z h.best_weight ≡ false → lighter z g.best_weight ≡ false) →
+keeping : {t : Graph} {j : ℕ} {h k : Held} {e : Bool} {m : Message} {p q : List Message} {g : Held} {os : List Send} → Seeks h → g.status ≡ h.status → g.find_count ≡ h.find_count → g.parent ≡ h.parent → g.level ≡ h.level → g.name ≡ h.name → ((z : Option ℕ) → lighter z h.best_weight ≡ false → lighter z g.best_weight ≡ false) →
     ((y : ℕ) → is_branch (g.mark y) ≡ is_branch (h.mark y)) → ((y : ℕ) → control (out_to y os) ≡ []) → control1 m ≡ [] → Waits t j h k e m p q g os
 keeping {j = j} (inl f) s c a l n b mk o u = keeps (record { seeks = f; goes = s ∙ f; parent = a; level = l; name = n; best = b; mark = λ y d. mk y; silent = λ y d. o y }) c u (mk j) (o j)
 keeping (inr f) s c a l n b mk o u = rests (λ z. f.0 (sym s ∙ z)) (c ∙ f.1)
@@ -260,7 +258,7 @@ absorbs {t} {j} {l} {A} {k} {e} {m} {p} {q} (inl f) c s b =
     (rw f) b (grind arith) (λ u. let v = s.parent_branch u in (grind arith)) (rw o (let c = calls_more p A.held.level A.held.name phase.Find in (grind arith)))
 absorbs {t} {j} {l} {A} {k} {e} {m} {p} {q} (inr f) c s b = rests f.0 (let n : is_find A.held.status ≡ false = not_find A.held.status f.0 in (grind arith))
 
-heard_one : {t : Graph} {j : ℕ} {h k : Held} {e : Bool} {r : Outgoing} {p q : List Message} → (h.parent ≡ Some j → ⊥) → h.status ≡ Find → h.mark j ≡ Branch → ReportOf h k e p q r → (k.status ≡ Find → ⊥) → Waits t j h k e (Report r) p q (bettering j r (hearing h)) []
+heard_one : {t : Graph} {j : ℕ} {h k : Held} {e : Bool} {r : Option ℕ} {p q : List Message} → (h.parent ≡ Some j → ⊥) → h.status ≡ Find → h.mark j ≡ Branch → ReportOf h k e p q r → (k.status ≡ Find → ⊥) → Waits t j h k e (Report r) p q (bettering j r (hearing h)) []
 heard_one {t} {j} {h} {k} {e} {r} {p} {q} c f b o n =
     hears (record { seeks = f; goes = f; parent = refl; level = refl; name = refl; best = λ z u. better_than r h.best_weight z u; mark = λ y d. refl; silent = λ y d. refl }) refl b b c refl refl
     (record { out = o.out; back = o.back; level = o.level; name = o.name; reported = o.reported; best = rw (← o.best) (better_here j r (hearing h)) }) n
@@ -279,7 +277,7 @@ waits_on {t} {i} {j} {A} {J} {p = p} {q} k1 ft sk e (Crosses-ask {l} {f} k c1 c2
 waits_on {t} {i} {j} {A} {J} {p = p} {q} k1 ft sk e (Crosses-report {l} {f} c1 c2 c3 c4 c5 c6) = calmed refl c5
 waits_on {t} {i} {j} {A} {J} {p = p} {q} k1 ft sk e (Crosses-wait {l} {f} c1 c2 c3 c4 c5) = keeping sk refl refl refl refl refl (λ z u. u) (λ y. same_mark j A.held y) (λ y. refl) refl
 waits_on {t} {i} {j} {A} {J} {p = p} {q} k1 ft sk e (Accepted-report c1 c2) = calmed refl c1
-waits_on {t} {i} {j} {A} {J} {p = p} {q} k1 ft sk e (Accepted-wait c1) = keeping sk refl refl refl refl refl (λ z u. better_than (Weight (t.weight i j)) A.held.best_weight z u) (λ y. refl) (λ y. refl) refl
+waits_on {t} {i} {j} {A} {J} {p = p} {q} k1 ft sk e (Accepted-wait c1) = keeping sk refl refl refl refl refl (λ z u. better_than (Some (t.weight i j)) A.held.best_weight z u) (λ y. refl) (λ y. refl) refl
 waits_on {t} {i} {j} {A} {J} {p = p} {q} k1 ft sk e (Rejected-ask k c1) = keeping sk refl refl refl refl refl (λ z u. u) (λ y. same_mark j A.held y) (λ y. test_none y k A.held.level A.held.name) refl
 waits_on {t} {i} {j} {A} {J} {p = p} {q} k1 ft sk e (Rejected-report c1 c2 c3) = calmed refl c2
 waits_on {t} {i} {j} {A} {J} {p = p} {q} k1 ft sk e (Rejected-wait c1 c2) = keeping sk refl refl refl refl refl (λ z u. u) (λ y. same_mark j A.held y) (λ y. refl) refl

@@ -1,9 +1,8 @@
 -- What every node and every message keeps to.
 use Rattle.std.proofs.Common.{◌≡◌, ℕ, ◌<◌, ◌≤◌, ◌⊎◌, List, Some, None, refl, inl, arith}
 use Rattle.message.specs.declared.messages.Message.{Message}
-use Rattle.message.specs.declared.messages.Outgoing.TheVariants.{Nothing}
 use Rattle.node.specs.declared.state.Status.TheVariants.{Sleeping}
-use Rattle.node.specs.declared.state.Mark.TheVariants.{Basic}
+use Rattle.graph.specs.declared.mark.Mark.TheVariants.{Basic}
 use Rattle.graph.specs.Graph.{Graph, Edge, Weights}
 use Rattle.protocol.proofs.Deed.{In, woke, got, Deed, Alone, WokeTo, Absorbs, Merges, Begins, Searches-ask, Searches-report, Searches-wait, Accepts, Rejects, Crosses-ask, Crosses-report, Crosses-wait, Accepted-report, Accepted-wait, Rejected-ask, Rejected-report, Rejected-wait, Hears-report, Hears-wait, Decides-passes, Decides-joins, Halts, Rests, Changed-passes, Changed-joins}
 use Rattle.protocol.proofs.Frame.{start, Lifted, Awake, Ready, Event, OneNode, unmoved, acting, node, Origin, was_there, just_sent, origin}
@@ -19,7 +18,7 @@ pub record Local (t : Graph) (i x y : ℕ) (h : Held) : Type 0 where
   pub parent : h.parent ≡ Some x → Edge t i x
   pub least : h.testing ≡ Some x → h.mark y ≡ Basic → Edge t i y → t.weight i x ≤ t.weight i y
   pub sleeps : h.status ≡ Sleeping → (h.mark x ≡ Basic) × (h.testing ≡ None) × (h.level ≡ 0)
-  pub long : h.best ≡ None → h.best_weight ≡ Nothing
+  pub long : h.best ≡ None → h.best_weight ≡ None
 
 -- a message comes over an edge
 abbrev pub Came : Graph → ℕ → In → Type 0

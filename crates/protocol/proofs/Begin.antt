@@ -2,11 +2,10 @@
 use Rattle.std.proofs.Common.{◌≡◌, ℕ, ◌<◌, ◌≤◌, Bool, true, false, cond, ◌⊎◌, List, [], ◌∷◌, ◌++◌, Some, None, Option, refl, inl, inr, arith}
 use Rattle.message.specs.declared.messages.Message.{Message}
 use Rattle.message.specs.declared.messages.Message.TheVariants.{Initiate, Report}
-use Rattle.message.specs.declared.messages.Outgoing.TheVariants.{Nothing}
 use Rattle.message.specs.declared.messages.Phase.{Phase}
 use Rattle.node.specs.declared.state.Status.{Status}
 use Rattle.node.specs.declared.state.Status.TheVariants.{Find, Found}
-use Rattle.node.specs.declared.state.Mark.TheVariants.{Branch}
+use Rattle.graph.specs.declared.mark.Mark.TheVariants.{Branch}
 use Rattle.node.specs.Rules.{is_branch, status_of, is_finding}
 use Rattle.protocol.proofs.Chain.{bool, busy_more, calls_more, chain_low, down_low, down_calm, down_more, chain_down}
 use Rattle.protocol.proofs.Ghost.{begin, View, follow, acted}
@@ -16,14 +15,14 @@ use Rattle.message.specs.declared.messages.Phase.TheVariants as phase
 
 -- the node afterwards, whatever it asks or waits for
 abbrev pub started : ℕ → ℕ → ℕ → Status → ℕ → (Option ℕ) → Held → Held
-started y l f s n k h = record { status = s; mark = h.mark; level = l; name = f; find_count = n; parent = Some y; best = None; best_weight = Nothing; testing = k; halted = h.halted }
+started y l f s n k h = record { status = s; mark = h.mark; level = l; name = f; find_count = n; parent = Some y; best = None; best_weight = None; testing = k; halted = h.halted }
 
 -- it begins as it is told, or has nothing to seek and reports at once
 abbrev pub Starting : Phase → Status → Bool → Type 0
 Starting s S r = ((S ≡ status_of s) × (r ≡ false)) ⊎ ((s ≡ phase.Find) × (S ≡ Found) × (r ≡ true))
 
 pub over_begin : {x y w : ℕ} {A B : View} {p q : List Message} {l f : ℕ} {s : Phase} (S : Status) (n : ℕ) (k : Option ℕ) (c r : Bool) → Sane x B → (A.own.label ≡ B.own.label → A.fragment ≡ B.fragment) → Starting s S r → Mode x y w A B p (Initiate l f s ∷ q) →
-    Mode x y w (acted (begin y c r) (started y l f S n k A.held) A B) (follow (begin y c r) A B B) (p ++ cond r (Report Nothing ∷ []) []) q
+    Mode x y w (acted (begin y c r) (started y l f S n k A.held) A B) (follow (begin y c r) A B B) (p ++ cond r (Report None ∷ []) []) q
 over_begin {x} {y} {w} {A} {B} {p} {q} {l} {f} {s} S n k c r b same g (free v) = absurd (grind arith)
 over_begin {x} {y} {w} {A} {B} {p} {q} {l} {f} {s} S n k c r b same g (offered v) = absurd (grind arith)
 over_begin {x} {y} {w} {A} {B} {p} {q} {l} {f} {s} S n k c r b same g (offers v) = absurd (grind arith)

@@ -1,10 +1,9 @@
 -- Every branch belongs to the lightest net.
-use Rattle.std.proofs.Common.{◌≡◌, ℕ, ◌≤◌, Bool, true, false, eqb, ◌⊎◌, List, sym, refl, ◌∙◌, inl, inr, arith}
+use Rattle.std.proofs.Common.{◌≡◌, ℕ, ◌≤◌, Bool, true, false, eqb, ◌⊎◌, List, sym, refl, ◌∙◌, inl, inr, arith, Some}
 use Rattle.std.proofs.lemmas.Bool.Decides.{eqb_tells}
 use Rattle.message.specs.declared.messages.Message.{Message}
-use Rattle.message.specs.declared.messages.Outgoing.TheVariants.{Weight}
-use Rattle.node.specs.declared.state.Mark.{Mark}
-use Rattle.node.specs.declared.state.Mark.TheVariants.{Basic, Branch, Rejected}
+use Rattle.graph.specs.declared.mark.Mark.{Mark}
+use Rattle.graph.specs.declared.mark.Mark.TheVariants.{Basic, Branch, Rejected}
 use Rattle.node.specs.Rules.{lighter}
 use Rattle.graph.specs.Graph.{Graph, Edge, Weights, Belongs}
 use Rattle.graph.proofs.Cut.{cut}
@@ -31,7 +30,7 @@ belonging_start t a b e = absurd (no_branch refl e)
 
 -- a branch at A leads out and is what A's fragment has decided on, or it is a branch at the other end too
 pub branch_stands : {x y w : ℕ} {A B : View} {p q : List Message} → Mode x y w A B p q → A.held.mark y ≡ Branch →
-    ((A.own.label ≡ B.own.label → ⊥) × (A.fragment.least ≡ decided (Weight w))) ⊎ (B.held.mark x ≡ Branch)
+    ((A.own.label ≡ B.own.label → ⊥) × (A.fragment.least ≡ decided (Some w))) ⊎ (B.held.mark x ≡ Branch)
 branch_stands (free v) e = absurd (v.mark_a e)
 branch_stands (offered v) e = inr v.mark_b
 branch_stands (offers v) e = inl ((λ u. v.differ (sym u)), v.least_b)
@@ -52,7 +51,7 @@ branch_or_not Basic = inr (λ e. grind arith)
 branch_or_not Branch = inl refl
 branch_or_not Rejected = inr (λ e. grind arith)
 
-not_lighter : (a b : ℕ) → lighter (Weight b) (Weight a) ≡ false → a ≤ b
+not_lighter : (a b : ℕ) → lighter (Some b) (Some a) ≡ false → a ≤ b
 not_lighter a b e = grind arith
 
 -- of two nodes, one is as it was
@@ -62,7 +61,7 @@ one_stays (off i j x front back c) a b d = inl (c.helds a)
 
 -- an edge that leads out and is what its fragment has decided on is the lightest that leads out: it belongs
 pub decided_belongs : (t : Graph) (n : Lifted) (γ : Ghost) → Outward t (view n γ) → (a b : ℕ) → Edge t a b →
-    ((γ.own a).label ≡ (γ.own b).label → ⊥) → (view n γ a).fragment.least ≡ decided (Weight (t.weight a b)) → Belongs t a b
+    ((γ.own a).label ≡ (γ.own b).label → ⊥) → (view n γ a).fragment.least ≡ decided (Some (t.weight a b)) → Belongs t a b
 decided_belongs t n γ F a b l d e = cut t ours a b l (eqb_on (γ.own a).label (γ.own a).label refl) outer least
   where
     ours : ℕ → Bool
@@ -75,7 +74,7 @@ decided_belongs t n γ F a b l d e = cut t ours a b l (eqb_on (γ.own a).label (
     least x y k p q =
         let s : (γ.own x).label ≡ (γ.own a).label = eqb_so (γ.own x).label (γ.own a).label p in
         let out : (γ.own x).label ≡ (γ.own y).label → ⊥ = λ u. eqb_not (γ.own y).label (γ.own a).label q (sym u ∙ s) in
-        not_lighter (t.weight a b) (t.weight x y) (F.lightest x y k (Weight (t.weight a b)) out ((λ z. (γ.fragment (s z)).least) ∙ e))
+        not_lighter (t.weight a b) (t.weight x y) (F.lightest x y k (Some (t.weight a b)) out ((λ z. (γ.fragment (s z)).least) ∙ e))
 
 module _ (t : Graph) (weights : Weights t) where
   pub belongs_back : (a b : ℕ) → Belongs t a b → Belongs t b a
@@ -93,7 +92,7 @@ module _ (t : Graph) (weights : Weights t) where
       one : ((n.held a).mark b ≡ Branch → ⊥) → ((n.held b).mark a ≡ Branch → ⊥) → (m.held b).mark a ≡ Branch → ⊥
       one x y f = elim (one_stays v a b (apart t weights a b edge)) [ inl u ↦ x (sym (λ k. (u k).mark b) ∙ e) | inr u ↦ y (sym (λ k. (u k).mark a) ∙ f) ]
 
-      stands : ((n.held a).mark b ≡ Branch → ⊥) → (((γ.own a).label ≡ (γ.own b).label → ⊥) × ((view m γ a).fragment.least ≡ decided (Weight (t.weight a b)))) ⊎ ((m.held b).mark a ≡ Branch) → Belongs t a b
+      stands : ((n.held a).mark b ≡ Branch → ⊥) → (((γ.own a).label ≡ (γ.own b).label → ⊥) × ((view m γ a).fragment.least ≡ decided (Some (t.weight a b)))) ⊎ ((m.held b).mark a ≡ Branch) → Belongs t a b
       stands x (inl (d, k)) = decided_belongs t m γ F a b edge d k
       stands x (inr f) = elim (branch_or_not ((n.held b).mark a)) [ inl u ↦ belongs_back b a (H b a u) | inr u ↦ absurd (one x u f) ]
 

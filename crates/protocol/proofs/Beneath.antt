@@ -2,7 +2,6 @@
 use Rattle.std.proofs.Common.{◌≡◌, ℕ, ◌+◌, Bool, ◌⊎◌, List, [], ◌∷◌, ◌++◌, Some, None, Option, refl, ap, ◌∙◌, inl, inr, append-nil, arith}
 use Rattle.message.specs.declared.messages.Message.{Message}
 use Rattle.message.specs.declared.messages.Message.TheVariants.{Connect, Initiate, Test, Accept, Reject, Report, Change}
-use Rattle.message.specs.declared.messages.Outgoing.{Outgoing}
 use Rattle.node.specs.declared.state.Status.{Status}
 use Rattle.node.specs.declared.state.Status.TheVariants.{Find}
 use Rattle.node.specs.Rules.{phase_of}
@@ -23,9 +22,9 @@ use Rattle.message.specs.declared.messages.Phase.TheVariants as phase
 -- node h goes on as it was, for all that y sees of it, or reports to y; e and e': whether it has reported, before and after
 pub data Below (y : ℕ) (h : Held) (e : Bool) (g : Held) (e' : Bool) (os : List Send) : Type 0 where
   steady : g.status ≡ h.status → g.level ≡ h.level → g.name ≡ h.name → (h.status ≡ Find) ⊎ (g.best_weight ≡ h.best_weight) → e' ≡ e → control (out_to y os) ≡ [] → Below y h e g e' os
-  reports_up : (r : Outgoing) → h.status ≡ Find → control (out_to y os) ≡ Report r ∷ [] → Below y h e g e' os
+  reports_up : (r : Option ℕ) → h.status ≡ Find → control (out_to y os) ≡ Report r ∷ [] → Below y h e g e' os
 
-sent_up : {y : ℕ} {A : View} (r : Outgoing) → Sane y A → A.held.status ≡ Find → A.own.up ≡ Some y → control (out_to y (send_to A.held.parent (Report r))) ≡ Report r ∷ []
+sent_up : {y : ℕ} {A : View} (r : Option ℕ) → Sane y A → A.held.status ≡ Find → A.own.up ≡ Some y → control (out_to y (send_to A.held.parent (Report r))) ≡ Report r ∷ []
 sent_up {y} {A} r s f u = let e : A.held.parent ≡ Some y = grind arith in rw e (ap control (to_self y (Report r)))
 
 tested : {w : Option ℕ} {s : Status} {j : ℕ} → (w ≡ None) ⊎ (s ≡ Find) → w ≡ Some j → s ≡ Find

@@ -2,7 +2,6 @@
 use Rattle.std.proofs.Common.{◌≡◌, ℕ, true, false, eqb, ◌⊎◌, List, ◌∷◌, ◌++◌, Some, None, sym, refl, ap, subst, subst₂, inl, inr, arith}
 use Rattle.std.proofs.lemmas.Bool.Decides.{eqb_tells}
 use Rattle.message.specs.declared.messages.Message.{Message}
-use Rattle.message.specs.declared.messages.Outgoing.TheVariants.{Nothing}
 use Rattle.node.specs.declared.state.Status.TheVariants.{Find}
 use Rattle.graph.specs.Graph.{Graph, Edge, Weights}
 use Rattle.protocol.proofs.Base.{Good}
@@ -35,11 +34,11 @@ pub bests_inner : {t : Graph} {n : Lifted} {γ : Ghost} → Good t n → Bests t
 bests_inner p v i k c u b h = (v.leads i k ((p.helds i k k).best b) c u b).parent h
 
 -- who has no best edge has no weight of one
-pub bests_long : {t : Graph} {n : Lifted} → Good t n → (i : ℕ) → (n.held i).best ≡ None → (n.held i).best_weight ≡ Nothing
+pub bests_long : {t : Graph} {n : Lifted} → Good t n → (i : ℕ) → (n.held i).best ≡ None → (n.held i).best_weight ≡ None
 bests_long p i = (p.helds i 0 0).long
 
 -- a best edge has a weight
-pub bests_finite : {t : Graph} {n : Lifted} {γ : Ghost} → Good t n → Bests t n γ → (i k : ℕ) → (n.held i).best ≡ Some k → (n.held i).best_weight ≡ Nothing → ⊥
+pub bests_finite : {t : Graph} {n : Lifted} {γ : Ghost} → Good t n → Bests t n γ → (i k : ℕ) → (n.held i).best ≡ Some k → (n.held i).best_weight ≡ None → ⊥
 bests_finite p v i k b = (v.choice i k ((p.helds i k k).best b)).finite b
 
 along : {x y w : ℕ} {A A' B B' : View} → A' ≡ A → B' ≡ B → Leads x y w A B → Leads x y w A' B'

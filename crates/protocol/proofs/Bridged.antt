@@ -1,13 +1,11 @@
 -- The bridge from the rules at a node's places to deeds among its neighbours: each message taken, each waking, each message deferred.
-use Rattle.std.proofs.Common.{◌≡◌, ℕ, ◌+◌, ◌<◌, Bool, true, false, cond, ◌&&◌, ◌||◌, List, [], ◌++◌, length, get_or, Some, None, sym, refl, ap, ◌∙◌, subst, arith}
+use Rattle.std.proofs.Common.{◌≡◌, ℕ, ◌+◌, ◌<◌, Bool, true, false, cond, ◌&&◌, ◌||◌, List, [], ◌++◌, length, get_or, Some, None, sym, refl, ap, ◌∙◌, subst, arith, Option}
 use Rattle.node.proofs.Took.{Took, Woke, absorbed, merged, joined_finding, joined_found, accepts, rejects, tests_on, accepted, rejected, heard_child, changed_by, settled, changed, awake, alone, connects}
 use Rattle.message.specs.declared.messages.Message.{Message}
 use Rattle.message.specs.declared.messages.Message.TheVariants.{Connect, Initiate, Test, Accept, Reject, Report, Change}
-use Rattle.message.specs.declared.messages.Outgoing.{Outgoing}
-use Rattle.message.specs.declared.messages.Outgoing.TheVariants.{Nothing, Weight}
 use Rattle.node.specs.declared.state.Status.{Status}
 use Rattle.node.specs.declared.state.Status.TheVariants.{Find}
-use Rattle.node.specs.declared.state.Mark.TheVariants.{Branch}
+use Rattle.graph.specs.declared.mark.Mark.TheVariants.{Branch}
 use Rattle.node.specs.declared.state.Node.{Node}
 use Rattle.node.specs.declared.state.Turn.{Turn}
 use Rattle.node.specs.Rules.{is_basic, is_sleeping, is_find, phase_of, is_nothing, lighter, is_edge, has_edge, mark_of, weight_of, silent}
@@ -33,7 +31,7 @@ module _ (g : Graph) (i : ℕ) (near : List ℕ) (n : Node) (s : Shape g i near 
   awake_not x e u = let z : is_find Find ≡ false = subst (λ v. is_find v ≡ false) u e in grind arith
 
   -- a report from the parent that is not acted on, or ends all
-  settles : (j : ℕ) (w : Outgoing) → is_edge n.parent j ≡ true → is_find n.status ≡ false → lighter (rules.best_weight n.best) w ≡ false → Bridged g i near n (got (at j) (Report w)) (rules.turn (rules.halting w n) silent)
+  settles : (j : ℕ) (w : Option ℕ) → is_edge n.parent j ≡ true → is_find n.status ≡ false → lighter (rules.best_weight n.best) w ≡ false → Bridged g i near n (got (at j) (Report w)) (rules.turn (rules.halting w n) silent)
   settles j w p f l = go (is_nothing w && is_nothing (rules.best_weight n.best)) refl
     where
       par : k.parent ≡ Some (at j)
@@ -42,9 +40,9 @@ module _ (g : Graph) (i : ℕ) (near : List ℕ) (n : Node) (s : Shape g i near 
       still : k.status ≡ Find → ⊥
       still = awake_not n.status f
 
-      nothing : (v : Outgoing) → is_nothing v ≡ true → v ≡ Nothing
-      nothing Nothing e = refl
-      nothing (Weight x) e = absurd (grind arith)
+      nothing : (v : Option ℕ) → is_nothing v ≡ true → v ≡ None
+      nothing None e = refl
+      nothing (Some x) e = absurd (grind arith)
 
       held : (b : Bool) → is_nothing w && is_nothing (rules.best_weight n.best) ≡ b → held_of near (rules.halting w n) ≡ cond b (halting k) k
       held true e = λ u. record { status = n.status; mark = k.mark; level = n.level; name = n.name; find_count = n.find_count; parent = k.parent; best = k.best; best_weight = k.best_weight; testing = k.testing; halted = yes' u }
@@ -97,9 +95,9 @@ module _ (g : Graph) (i : ℕ) (near : List ℕ) (n : Node) (s : Shape g i near 
       reject_bridged g i near n s inside (got (at j) (Test l f)) j e (λ m q. Crosses-ask m a b y q) (λ z q. Crosses-report a b y z q refl) (λ z q. Crosses-wait a b y z q)
   took_bridged j _ _ e (accepted c) =
       let p = inside_of g i near n s j e in
-      let h = held_bettering g i near (rules.testing None n) (shape_untested g i near n s inside) j (Weight (weight_of n j)) ∙ ap (λ v. bettering (at j) (Weight v) (testing_now None k)) (s.weigh j p) in
-      report_bridged g i near n s inside (got (at j) Accept) (rules.bettering j (Weight (weight_of n j)) (rules.testing None n)) (bettering (at j) (Weight (g.weight i (at j))) (testing_now None k)) refl h
-      (λ a b. Accepted-report a b) (λ a. Accepted-wait a) (rules.reports (rules.bettering j (Weight (weight_of n j)) (rules.testing None n)) silent) (reports_is (rules.bettering j (Weight (weight_of n j)) (rules.testing None n)) silent)
+      let h = held_bettering g i near (rules.testing None n) (shape_untested g i near n s inside) j (Some (weight_of n j)) ∙ ap (λ v. bettering (at j) (Some v) (testing_now None k)) (s.weigh j p) in
+      report_bridged g i near n s inside (got (at j) Accept) (rules.bettering j (Some (weight_of n j)) (rules.testing None n)) (bettering (at j) (Some (g.weight i (at j))) (testing_now None k)) refl h
+      (λ a b. Accepted-report a b) (λ a. Accepted-wait a) (rules.reports (rules.bettering j (Some (weight_of n j)) (rules.testing None n)) silent) (reports_is (rules.bettering j (Some (weight_of n j)) (rules.testing None n)) silent)
   took_bridged j _ _ e (rejected c) = reject_bridged g i near n s inside (got (at j) Reject) j e (λ m q. Rejected-ask m q) (λ z q. Rejected-report z q refl) (λ z q. Rejected-wait (record { nobody = λ y a b c. z.nobody y a b (grind arith) }) q)
   took_bridged j _ _ e (heard_child w c) =
       let p = inside_of g i near n s j e in

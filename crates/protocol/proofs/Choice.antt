@@ -3,8 +3,7 @@ use Rattle.std.proofs.Common.{◌≡◌, ℕ, ◌<◌, ◌≤◌, true, false, L
 use Rattle.std.proofs.lemmas.Bool.Decides.{eqb_tells}
 use Rattle.message.specs.declared.messages.Message.{Message}
 use Rattle.message.specs.declared.messages.Message.TheVariants.{Connect, Initiate, Test, Accept, Reject, Report, Change}
-use Rattle.message.specs.declared.messages.Outgoing.TheVariants.{Nothing, Weight}
-use Rattle.node.specs.declared.state.Mark.TheVariants.{Basic}
+use Rattle.graph.specs.declared.mark.Mark.TheVariants.{Basic}
 use Rattle.node.specs.Rules.{lighter}
 use Rattle.graph.specs.Graph.{Graph, Edge}
 use Rattle.protocol.proofs.Base.{Local}
@@ -19,8 +18,8 @@ use Rattle.protocol.proofs.Talk.{replies1, still, asking, yes', no', Talk, both,
 
 -- node i has an edge to k. finite: a best edge has a weight; lightest: who searches and asks nobody has no basic edge lighter than its best one; late: who is not asked in the search has none
 pub record Choice (t : Graph) (i k : ℕ) (A : View) : Type 0 where
-  pub finite : A.held.best ≡ Some k → A.held.best_weight ≡ Nothing → ⊥
-  pub lightest : A.held.level ≡ A.fragment.level → A.own.in_search ≡ true → A.held.testing ≡ None → 1 ≤ A.held.level → A.held.mark k ≡ Basic → lighter (Weight (t.weight i k)) A.held.best_weight ≡ false
+  pub finite : A.held.best ≡ Some k → A.held.best_weight ≡ None → ⊥
+  pub lightest : A.held.level ≡ A.fragment.level → A.own.in_search ≡ true → A.held.testing ≡ None → 1 ≤ A.held.level → A.held.mark k ≡ Basic → lighter (Some (t.weight i k)) A.held.best_weight ≡ false
   pub late : A.held.level ≡ A.fragment.level → A.own.in_search ≡ false → 1 ≤ A.held.level → A.held.best ≡ None
 
 -- what an accept from y means to A, which takes it: A asked y, and the edge leads out

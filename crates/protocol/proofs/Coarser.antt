@@ -1,7 +1,7 @@
 -- Labels only coarsen: a step leaves the fragments as they are, or makes one of two.
 use Rattle.std.proofs.Common.{◌≡◌, ℕ, suc, true, cond, not, ◌&&◌, ◌||◌, eqb, ◌⊎◌, List, sym, refl, ap, ◌∙◌, inl, inr, arith}
 use Rattle.std.proofs.lemmas.Bool.Decides.{eqb_tells}
-use Rattle.node.specs.declared.state.Mark.TheVariants.{Branch}
+use Rattle.graph.specs.declared.mark.Mark.TheVariants.{Branch}
 use Rattle.graph.specs.Graph.{Graph, Edge, Weights}
 use Rattle.protocol.proofs.Base.{Good}
 use Rattle.protocol.proofs.Deed.{woke, got, Deed, Alone, WokeTo}

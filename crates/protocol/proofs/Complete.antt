@@ -1,7 +1,7 @@
 -- When a node has halted the net is complete, and stays as it is.
 use Rattle.std.proofs.Common.{◌≡◌, ℕ, ◌<◌, true, length, sym, refl, ◌∙◌}
-use Rattle.node.specs.declared.state.Mark.{Mark}
-use Rattle.node.specs.declared.state.Mark.TheVariants.{Basic, Branch, Rejected}
+use Rattle.graph.specs.declared.mark.Mark.{Mark}
+use Rattle.graph.specs.declared.mark.Mark.TheVariants.{Basic, Branch, Rejected}
 use Rattle.node.specs.Rules.{mark_of}
 use Rattle.graph.specs.Graph.{Graph, Edge, Joined, Weights, Belongs}
 use Rattle.protocol.proofs.Ending.{no_basic}

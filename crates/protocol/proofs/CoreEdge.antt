@@ -1,10 +1,8 @@
 -- The core edge: a fragment of level 1 or more has an edge inside it whose weight is its name.
 use Rattle.std.proofs.Common.{◌≡◌, ℕ, suc, ◌<◌, ◌≤◌, true, false, cond, eqb, ◌⊎◌, List, Some, None, Option, sym, refl, ap, ◌∙◌, subst, inl, inr, arith}
 use Rattle.std.proofs.lemmas.Bool.Decides.{eqb_tells}
-use Rattle.message.specs.declared.messages.Outgoing.{Outgoing}
-use Rattle.message.specs.declared.messages.Outgoing.TheVariants.{Nothing, Weight}
 use Rattle.node.specs.declared.state.Status.TheVariants.{Sleeping}
-use Rattle.node.specs.declared.state.Mark.TheVariants.{Branch}
+use Rattle.graph.specs.declared.mark.Mark.TheVariants.{Branch}
 use Rattle.graph.specs.Graph.{Graph, Edge, Weights}
 use Rattle.protocol.proofs.Base.{Good}
 use Rattle.protocol.proofs.Coarser.{level_same, level_else, again_level, again_label, merge_label}
@@ -22,7 +20,7 @@ pub record Settled (A B : View) : Type 0 where
   pub current_a : A.held.level ≡ A.fragment.level
   pub current_b : B.held.level ≡ B.fragment.level
   pub v : ℕ
-  pub least : A.fragment.least ≡ decided (Weight v)
+  pub least : A.fragment.least ≡ decided (Some v)
 
 -- each leads up to the other
 abbrev pub Mutual : ℕ → ℕ → View → View → Type 0
@@ -66,7 +64,7 @@ record Keeps (A A' : View) : Type 0 where
   label : A'.own.label ≡ A.own.label
   name : A'.fragment.name ≡ A.fragment.name
   marks : (k : ℕ) → A.held.mark k ≡ Branch → A'.held.mark k ≡ Branch
-  settled : (v : ℕ) → A.fragment.least ≡ decided (Weight v) → A.held.level ≡ A.fragment.level → (A'.fragment.least ≡ decided (Weight v)) × (A'.held.level ≡ A'.fragment.level)
+  settled : (v : ℕ) → A.fragment.least ≡ decided (Some v) → A.held.level ≡ A.fragment.level → (A'.fragment.least ≡ decided (Some v)) × (A'.held.level ≡ A'.fragment.level)
 
 holds_keeps : {f a b w : ℕ} {A A' B B' : View} → (A.own.label ≡ B.own.label → A.fragment ≡ B.fragment) → Keeps A A' → Keeps B B' → (Mutual a b A B → Mutual a b A' B' ⊎ Settled A B) → Holds f a b w A B → Holds f a b w A' B'
 holds_keeps {f} {a} {b} {w} {A} {A'} {B} {B'} same k l ups h = record { label_a = k.label ∙ h.label_a; label_b = l.label ∙ h.label_b; mark_a = k.marks b h.mark_a; mark_b = l.marks a h.mark_b; name = k.name ∙ h.name; stands = go h.stands }
@@ -105,7 +103,7 @@ keeps_else (says_decide a) s e = record { label = grind arith; name = grind arit
 keeps_else (says_change a) s e = record { label = grind arith; name = grind arith; marks = λ k x. x; settled = λ v x y. (grind arith, grind arith) }
 keeps_else (says_end a b) s e = record { label = grind arith; name = grind arith; marks = λ k x. x; settled = λ v x y. (grind arith, grind arith) }
 
-keeps_starts : (me b : ℕ) (k : Option ℕ) (z : Outgoing) {A : View} (C J : View) → (A.own.label ≡ C.own.label → ⊥) → Keeps A (follow (starts me b k z) C J A)
+keeps_starts : (me b : ℕ) (k : Option ℕ) (z : Option ℕ) {A : View} (C J : View) → (A.own.label ≡ C.own.label → ⊥) → Keeps A (follow (starts me b k z) C J A)
 keeps_starts me b k z C J d = record { label = grind arith; name = grind arith; marks = λ k x. x; settled = λ v x y. (grind arith, grind arith) }
 
 -- who acts
@@ -233,7 +231,7 @@ module _ (t : Graph) (weights : Weights t) (n m : Lifted) (γ : Ghost) where
   ]
 
   -- who wakes is alone in its fragment, so it is no end of a core edge
-  core_starts : {i : ℕ} (me b : ℕ) (w : Option ℕ) (z : Outgoing) → ((a : ℕ) → (a ≡ i → ⊥) → m.held a ≡ n.held a) → ((a : ℕ) → (a ≡ i → ⊥) → (γ.own a).label ≡ label i → ⊥) → CoreEdges t n γ → CoreEdges t m (after (starts me b w z) i i)
+  core_starts : {i : ℕ} (me b : ℕ) (w : Option ℕ) (z : Option ℕ) → ((a : ℕ) → (a ≡ i → ⊥) → m.held a ≡ n.held a) → ((a : ℕ) → (a ≡ i → ⊥) → (γ.own a).label ≡ label i → ⊥) → CoreEdges t n γ → CoreEdges t m (after (starts me b w z) i i)
   core_starts {i} me b w z others lone K x lx h = plain (after (starts me b w z) i i) K lx refl (level_same level (label x) (label i)) go h
     where
       go : CoreEdge t n γ (label x) → CoreEdge t m (after (starts me b w z) i i) (label x)
@@ -252,8 +250,8 @@ module _ (t : Graph) (weights : Weights t) (n m : Lifted) (γ : Ghost) where
           beside a d = view_else (starts me b w z) i (view n γ i) (view n γ i) γ m a (n.held a) (others a d) d
 
   core_woke : {i : ℕ} {o g : Held} {os : List Send} → ((a : ℕ) → (a ≡ i → ⊥) → m.held a ≡ n.held a) → ((a : ℕ) → (a ≡ i → ⊥) → (γ.own a).label ≡ label i → ⊥) → CoreEdges t n γ → (d : Deed t i o woke g os) → CoreEdges t m (after (turn d) i i)
-  core_woke {i} others lone K (Alone c1) = core_starts i i None Nothing others lone K
-  core_woke {i} others lone K (WokeTo k c1) = core_starts i k (Some k) (Weight (t.weight i k)) others lone K
+  core_woke {i} others lone K (Alone c1) = core_starts i i None None others lone K
+  core_woke {i} others lone K (WokeTo k c1) = core_starts i k (Some k) (Some (t.weight i k)) others lone K
 
   core_off : ((a : ℕ) → m.held a ≡ n.held a) → CoreEdges t n γ → CoreEdges t m γ
   core_off helds K x lx h = let k = K x lx h in record { a = k.a; b = k.b; edge = k.edge; holds = along (same k.a) (same k.b) k.holds }

@@ -4,7 +4,7 @@ use Rattle.std.proofs.lemmas.Bool.Decides.{eqb_tells}
 use Rattle.message.specs.declared.messages.Message.{Message}
 use Rattle.node.specs.declared.state.Status.{Status}
 use Rattle.node.specs.declared.state.Status.TheVariants.{Sleeping, Find, Found}
-use Rattle.node.specs.declared.state.Mark.TheVariants.{Branch}
+use Rattle.graph.specs.declared.mark.Mark.TheVariants.{Branch}
 use Rattle.node.specs.Rules.{is_branch, is_find}
 use Rattle.graph.specs.Graph.{Graph}
 use Rattle.protocol.proofs.Awaits.{awaits, HeardFrom, Hears, branch_is, branch_as, awaits_basic, awaits_parent, awaits_here, awaits_keeps, SeeksOn, Waits, rests, keeps, adds, hears, joins}

@@ -3,13 +3,11 @@ use Rattle.std.proofs.Common.{◌≡◌, ℕ, zero, suc, ◌+◌, ◌-◌, ◌<�
 use Rattle.std.proofs.lemmas.Bool.Decides.{eqb_tells}
 use Rattle.message.specs.declared.messages.Message.{Message}
 use Rattle.message.specs.declared.messages.Message.TheVariants.{Connect, Initiate, Test, Accept, Reject, Report, Change}
-use Rattle.message.specs.declared.messages.Outgoing.{Outgoing}
-use Rattle.message.specs.declared.messages.Outgoing.TheVariants.{Nothing, Weight}
 use Rattle.message.specs.declared.messages.Phase.{Phase}
 use Rattle.node.specs.declared.state.Status.{Status}
 use Rattle.node.specs.declared.state.Status.TheVariants.{Sleeping, Find, Found}
-use Rattle.node.specs.declared.state.Mark.{Mark}
-use Rattle.node.specs.declared.state.Mark.TheVariants.{Basic, Branch, Rejected}
+use Rattle.graph.specs.declared.mark.Mark.{Mark}
+use Rattle.graph.specs.declared.mark.Mark.TheVariants.{Basic, Branch, Rejected}
 use Rattle.node.specs.Rules.{is_branch, is_find, phase_of, status_of, lighter}
 use Rattle.graph.specs.Graph.{Graph}
 use Rattle.protocol.proofs.Absorb.{over_absorb, over_merge}
@@ -66,7 +64,7 @@ pub record Knows (t : Graph) (i y : ℕ) (A B : View) (p q : List Message) : Typ
   pub mine : Sane y A
   pub theirs : Sane i B
   pub same : A.own.label ≡ B.own.label → A.fragment ≡ B.fragment
-  pub long : A.held.best ≡ None → A.held.best_weight ≡ Nothing
+  pub long : A.held.best ≡ None → A.held.best_weight ≡ None
   pub inner : (k : ℕ) → A.own.changed ≡ false → A.held.level ≡ A.fragment.level → A.held.best ≡ Some k → A.held.parent ≡ Some k → ⊥
   pub best : A.own.changed ≡ false → A.held.level ≡ A.fragment.level → A.held.best ≡ Some y → Best i y (t.weight i y) A B
   pub asks : (A.held.testing ≡ None) ⊎ (A.held.status ≡ Find)
@@ -101,7 +99,7 @@ send_else : (w : Option ℕ) (y : ℕ) (m : Message) → (w ≡ Some y → ⊥) 
 send_else None y m d = refl
 send_else (Some k) y m d = to_other y k m (λ e. d (ap Some e))
 
-reporting : {x y w : ℕ} {A B : View} {p q : List Message} (m : ℕ → Mark) (n : ℕ) (b : Option ℕ) (z : Outgoing) (k : Option ℕ) (J : View) → Sane y A → Sane x B → Marks y m A B → (A.own.label ≡ B.own.label → A.fragment ≡ B.fragment) → A.held.status ≡ Find → Quiet x y A B p q → lighter A.held.best_weight z ≡ false →
+reporting : {x y w : ℕ} {A B : View} {p q : List Message} (m : ℕ → Mark) (n : ℕ) (b : Option ℕ) (z : Option ℕ) (k : Option ℕ) (J : View) → Sane y A → Sane x B → Marks y m A B → (A.own.label ≡ B.own.label → A.fragment ≡ B.fragment) → A.held.status ≡ Find → Quiet x y A B p q → lighter A.held.best_weight z ≡ false →
     Mode x y w A B p q → Mode x y w (acted report (tuned Found m n b z k A.held) A J) (follow report A J B) (p ++ control (out_to y (send_to A.held.parent (Report z)))) q
 reporting {x} {y} {w} {A} {B} {p} {q} m n b z k J sa sb mk same st qu le e = go (way_tells A.held.parent y)
   where
@@ -122,19 +120,19 @@ asking : {w : (Option ℕ)} {s : Status} {j : ℕ} → (w ≡ None) ⊎ (s ≡ F
 asking a e = grind arith
 
 -- what a node knows of does not grow heavier
-not_lighter : (r : Outgoing) → lighter r r ≡ false
-not_lighter Nothing = refl
-not_lighter (Weight r) = grind arith
+not_lighter : (r : Option ℕ) → lighter r r ≡ false
+not_lighter None = refl
+not_lighter (Some r) = grind arith
 
-no_heavier : (w r : Outgoing) → lighter r (cond (lighter w r) w r) ≡ false
-no_heavier Nothing r = not_lighter r
-no_heavier (Weight w) Nothing = refl
-no_heavier (Weight w) (Weight r) = grind arith
+no_heavier : (w r : Option ℕ) → lighter r (cond (lighter w r) w r) ≡ false
+no_heavier None r = not_lighter r
+no_heavier (Some w) None = refl
+no_heavier (Some w) (Some r) = grind arith
 
-just_heard : (w r : Outgoing) → lighter w (cond (lighter w r) w r) ≡ false
-just_heard Nothing r = refl
-just_heard (Weight w) Nothing = grind arith
-just_heard (Weight w) (Weight r) = grind arith
+just_heard : (w r : Option ℕ) → lighter w (cond (lighter w r) w r) ≡ false
+just_heard None r = refl
+just_heard (Some w) None = grind arith
+just_heard (Some w) (Some r) = grind arith
 
 -- the edge that the message came by
 pub acts_over : {t : Graph} {i y : ℕ} {A B : View} {m : Message} {g : Held} {os : List Send} {p q : List Message} → Knows t i y A B p q → (A.held.status ≡ Sleeping → ⊥) → Suits m A B → (d : Deed t i A.held (got y m) g os) → Mode i y (t.weight i y) A B p (control1 m ++ q) →
@@ -143,15 +141,15 @@ acts_over {t} {i} {y} {A} {B} {p = p} {q} k1 aw ft (Absorbs {l} c1) e = rw (to_s
 acts_over {t} {i} {y} {A} {B} {p = p} {q} k1 aw ft (Merges {l} c1 c2) e = rw (to_self y (Initiate (A.held.level + 1) (t.weight i y) phase.Find)) (over_merge k1.mine k1.same c1 c2 e)
 acts_over {t} {i} {y} {A} {B} {p = p} {q} k1 aw ft (Begins {l} {f} {s} c1) e = rw (onward_self A.held y l f s t.count []) (over_begin (status_of s) (joining t y l f s A.held).find_count (joining t y l f s A.held).testing (eqb (t.weight i y) f) false k1.theirs k1.same (inl (refl, refl)) e)
 acts_over {t} {i} {y} {A} {B} {p = p} {q} k1 aw ft (Searches-ask {l} {f} k c1) e = rw (onward_self A.held y l f phase.Find t.count (one k (Test l f)), test_none y k l f) (over_begin Find (joining t y l f phase.Find A.held).find_count (Some k) (eqb (t.weight i y) f) false k1.theirs k1.same (inl (refl, refl)) e)
-acts_over {t} {i} {y} {A} {B} {p = p} {q} k1 aw ft (Searches-report {l} {f} c1 c2 c3) e = rw (onward_self A.held y l f phase.Find t.count (one y (Report Nothing)), to_self y (Report Nothing)) (over_begin Found (joining t y l f phase.Find A.held).find_count None (eqb (t.weight i y) f) true k1.theirs k1.same (inr (refl, refl, refl)) e)
+acts_over {t} {i} {y} {A} {B} {p = p} {q} k1 aw ft (Searches-report {l} {f} c1 c2 c3) e = rw (onward_self A.held y l f phase.Find t.count (one y (Report None)), to_self y (Report None)) (over_begin Found (joining t y l f phase.Find A.held).find_count None (eqb (t.weight i y) f) true k1.theirs k1.same (inr (refl, refl, refl)) e)
 acts_over {t} {i} {y} {A} {B} {p = p} {q} k1 aw ft (Searches-wait {l} {f} c1 c2) e = rw (onward_self A.held y l f phase.Find t.count []) (over_begin Find (joining t y l f phase.Find A.held).find_count None (eqb (t.weight i y) f) false k1.theirs k1.same (inl (refl, refl)) e)
 acts_over {t} {i} {y} {A} {B} {p = p} {q} k1 aw ft (Accepts {l} {f} c1 c2) e = rw (to_self y Accept, append-nil) (tunes A.held.status A.held.mark A.held.find_count A.held.best A.held.best_weight A.held.testing B k1.mine (inr (refl, refl, refl)) (inl refl) k1.same e)
 acts_over {t} {i} {y} {A} {B} {p = p} {q} k1 aw ft (Rejects {l} {f} c1 c2 c3) e = rw (to_self y Reject, append-nil) (tunes (rejecting y A.held).status (rejecting y A.held).mark (rejecting y A.held).find_count (rejecting y A.held).best (rejecting y A.held).best_weight (rejecting y A.held).testing B k1.mine (inr (refl, refl, refl)) (ruled_here A B y (ft c2)) k1.same e)
 acts_over {t} {i} {y} {A} {B} {p = p} {q} k1 aw ft (Crosses-ask {l} {f} k c1 c2 c3 c4) e = rw (test_none y k A.held.level A.held.name, append-nil) (tunes (testing_now (Some k) (rejecting y A.held)).status (testing_now (Some k) (rejecting y A.held)).mark (testing_now (Some k) (rejecting y A.held)).find_count (testing_now (Some k) (rejecting y A.held)).best (testing_now (Some k) (rejecting y A.held)).best_weight (testing_now (Some k) (rejecting y A.held)).testing B k1.mine (inr (refl, refl, refl)) (ruled_here A B y (ft c2)) k1.same e)
 acts_over {t} {i} {y} {A} {B} {p = p} {q} k1 aw ft (Crosses-report {l} {f} c1 c2 c3 c4 c5 c6) e = reporting (finding (testing_now None (rejecting y A.held))).mark (finding (testing_now None (rejecting y A.held))).find_count (finding (testing_now None (rejecting y A.held))).best (finding (testing_now None (rejecting y A.held))).best_weight (finding (testing_now None (rejecting y A.held))).testing B k1.mine k1.theirs (ruled_here A B y (ft c2)) k1.same (asking k1.asks c3) (k1.quiet c5 (asking k1.asks c3)) (not_lighter A.held.best_weight) e
 acts_over {t} {i} {y} {A} {B} {p = p} {q} k1 aw ft (Crosses-wait {l} {f} c1 c2 c3 c4 c5) e = rw append-nil (tunes (testing_now None (rejecting y A.held)).status (testing_now None (rejecting y A.held)).mark (testing_now None (rejecting y A.held)).find_count (testing_now None (rejecting y A.held)).best (testing_now None (rejecting y A.held)).best_weight (testing_now None (rejecting y A.held)).testing B k1.mine (inr (refl, refl, refl)) (ruled_here A B y (ft c2)) k1.same e)
-acts_over {t} {i} {y} {A} {B} {p = p} {q} k1 aw ft (Accepted-report c1 c2) e = reporting (finding (bettering y (Weight (t.weight i y)) (testing_now None A.held))).mark (finding (bettering y (Weight (t.weight i y)) (testing_now None A.held))).find_count (finding (bettering y (Weight (t.weight i y)) (testing_now None A.held))).best (finding (bettering y (Weight (t.weight i y)) (testing_now None A.held))).best_weight (finding (bettering y (Weight (t.weight i y)) (testing_now None A.held))).testing B k1.mine k1.theirs (inl refl) k1.same (ft) (k1.quiet c1 ft) (no_heavier (Weight (t.weight i y)) A.held.best_weight) e
-acts_over {t} {i} {y} {A} {B} {p = p} {q} k1 aw ft (Accepted-wait c1) e = rw append-nil (tunes (bettering y (Weight (t.weight i y)) (testing_now None A.held)).status (bettering y (Weight (t.weight i y)) (testing_now None A.held)).mark (bettering y (Weight (t.weight i y)) (testing_now None A.held)).find_count (bettering y (Weight (t.weight i y)) (testing_now None A.held)).best (bettering y (Weight (t.weight i y)) (testing_now None A.held)).best_weight (bettering y (Weight (t.weight i y)) (testing_now None A.held)).testing B k1.mine (inl (ft, ft)) (inl refl) k1.same e)
+acts_over {t} {i} {y} {A} {B} {p = p} {q} k1 aw ft (Accepted-report c1 c2) e = reporting (finding (bettering y (Some (t.weight i y)) (testing_now None A.held))).mark (finding (bettering y (Some (t.weight i y)) (testing_now None A.held))).find_count (finding (bettering y (Some (t.weight i y)) (testing_now None A.held))).best (finding (bettering y (Some (t.weight i y)) (testing_now None A.held))).best_weight (finding (bettering y (Some (t.weight i y)) (testing_now None A.held))).testing B k1.mine k1.theirs (inl refl) k1.same (ft) (k1.quiet c1 ft) (no_heavier (Some (t.weight i y)) A.held.best_weight) e
+acts_over {t} {i} {y} {A} {B} {p = p} {q} k1 aw ft (Accepted-wait c1) e = rw append-nil (tunes (bettering y (Some (t.weight i y)) (testing_now None A.held)).status (bettering y (Some (t.weight i y)) (testing_now None A.held)).mark (bettering y (Some (t.weight i y)) (testing_now None A.held)).find_count (bettering y (Some (t.weight i y)) (testing_now None A.held)).best (bettering y (Some (t.weight i y)) (testing_now None A.held)).best_weight (bettering y (Some (t.weight i y)) (testing_now None A.held)).testing B k1.mine (inl (ft, ft)) (inl refl) k1.same e)
 acts_over {t} {i} {y} {A} {B} {p = p} {q} k1 aw ft (Rejected-ask k c1) e = rw (test_none y k A.held.level A.held.name, append-nil) (tunes (testing_now (Some k) (rejecting y A.held)).status (testing_now (Some k) (rejecting y A.held)).mark (testing_now (Some k) (rejecting y A.held)).find_count (testing_now (Some k) (rejecting y A.held)).best (testing_now (Some k) (rejecting y A.held)).best_weight (testing_now (Some k) (rejecting y A.held)).testing B k1.mine (inr (refl, refl, refl)) (ruled_here A B y ft.1) k1.same e)
 acts_over {t} {i} {y} {A} {B} {p = p} {q} k1 aw ft (Rejected-report c1 c2 c3) e = reporting (finding (testing_now None (rejecting y A.held))).mark (finding (testing_now None (rejecting y A.held))).find_count (finding (testing_now None (rejecting y A.held))).best (finding (testing_now None (rejecting y A.held))).best_weight (finding (testing_now None (rejecting y A.held))).testing B k1.mine k1.theirs (ruled_here A B y ft.1) k1.same ft.0 (k1.quiet c2 ft.0) (not_lighter A.held.best_weight) e
 acts_over {t} {i} {y} {A} {B} {p = p} {q} k1 aw ft (Rejected-wait c1 c2) e = rw append-nil (tunes (testing_now None (rejecting y A.held)).status (testing_now None (rejecting y A.held)).mark (testing_now None (rejecting y A.held)).find_count (testing_now None (rejecting y A.held)).best (testing_now None (rejecting y A.held)).best_weight (testing_now None (rejecting y A.held)).testing B k1.mine (inr (refl, refl, refl)) (ruled_here A B y ft.1) k1.same e)
@@ -177,26 +175,26 @@ unlaid : {m : Mark} → (m ≡ Basic) ⊎ (m ≡ Branch) → (m ≡ Branch → �
 unlaid (inl u) f = u
 unlaid (inr u) f = absurd (f u)
 
-calm_end : {s : Status} {l : Least} {z : Outgoing} → (s ≡ Find → l ≡ undecided) → l ≡ decided z → s ≡ Find → ⊥
+calm_end : {s : Status} {l : Least} {z : Option ℕ} → (s ≡ Find → l ≡ undecided) → l ≡ decided z → s ≡ Find → ⊥
 calm_end f e u = grind arith
 
 -- the other edges
 pub acts_beside : {t : Graph} {i y j : ℕ} {A B J : View} {m : Message} {g : Held} {os : List Send} {p q pj qj : List Message} → Knows t i y A B p q → Knows t i j A J pj qj → Suits m A J → (i ≡ j → ⊥) → (y ≡ j → ⊥) → (t.weight i y ≡ t.weight i j → ⊥) → Labels A B A J →
-    ((r : Outgoing) → m ≡ Report r → (A.held.parent ≡ Some j → ⊥) → A.held.find_count - 1 ≡ 0 → Quiet i y A B p q) → Mode i j (t.weight i j) A J pj (control1 m ++ qj) → (d : Deed t i A.held (got j m) g os) → Mode i y (t.weight i y) A B p q →
+    ((r : Option ℕ) → m ≡ Report r → (A.held.parent ≡ Some j → ⊥) → A.held.find_count - 1 ≡ 0 → Quiet i y A B p q) → Mode i j (t.weight i j) A J pj (control1 m ++ qj) → (d : Deed t i A.held (got j m) g os) → Mode i y (t.weight i y) A B p q →
     Mode i y (t.weight i y) (acted (turn d) g A J) (follow (turn d) A J B) (p ++ control (out_to y os)) q
 acts_beside {t} {i} {y} {j} {A} {B} {J} {p = p} {q} k1 kj ft ij ne nw lab late ej (Absorbs {l} c1) e = let nj : j ≡ y → ⊥ = λ u. ne (sym u) in let a = head_absorb c1 ej in rw (to_other y j (Initiate A.held.level A.held.name (phase_of A.held.status)) nj, append-nil) (tunes0 (marking j Branch A.held).mark (counting (cond (is_find A.held.status) 1 0) A.held).find_count A.held.testing A.held.halted (laid_else A.held j y ne) (else_absorb lab k1.mine k1.theirs nw (away ij ne) k1.mine.low a.low a.current a.least a.sends a.gets a.differ e))
 acts_beside {t} {i} {y} {j} {A} {B} {J} {p = p} {q} k1 kj ft ij ne nw lab late ej (Merges {l} c1 c2) e = let nj : j ≡ y → ⊥ = λ u. ne (sym u) in rw (to_other y j (Initiate (A.held.level + 1) (t.weight i j) phase.Find) nj, append-nil) (elim (head_merge c1 c2 ej) [ inl a ↦ else_merge lab k1.mine k1.theirs nw (away ij ne) a.current_a a.least_a a.levels a.current a.least a.sends a.gets a.sends_a a.gets_a a.differ e | inr u ↦ else_again (t.weight i j) lab u e ])
 acts_beside {t} {i} {y} {j} {A} {B} {J} {p = p} {q} k1 kj ft ij ne nw lab late ej (Begins {l} {f} {s} c1) e = let nj : j ≡ y → ⊥ = λ u. ne (sym u) in let b = head_begin kj.theirs kj.same ej in rw (onward_other A.held y j l f s t.count [] k1.inside ne, append-nil) (beside_begin l f s (status_of s) j (joining t j l f s A.held).find_count A.held.testing (eqb (t.weight i j) f) false J k1.mine k1.theirs k1.same b.up ne b.rises b.top (inl refl) (inl (refl, refl)) b.now b.asked e)
 acts_beside {t} {i} {y} {j} {A} {B} {J} {p = p} {q} k1 kj ft ij ne nw lab late ej (Searches-ask {l} {f} k c1) e = let nj : j ≡ y → ⊥ = λ u. ne (sym u) in let b = head_begin kj.theirs kj.same ej in rw (onward_other A.held y j l f phase.Find t.count (one k (Test l f)) k1.inside ne, test_none y k l f, append-nil) (beside_begin l f phase.Find Find j (joining t j l f phase.Find A.held).find_count (Some k) (eqb (t.weight i j) f) false J k1.mine k1.theirs k1.same b.up ne b.rises b.top (inl refl) (inl (refl, refl)) b.now b.asked e)
-acts_beside {t} {i} {y} {j} {A} {B} {J} {p = p} {q} k1 kj ft ij ne nw lab late ej (Searches-report {l} {f} c1 c2 c3) e = let nj : j ≡ y → ⊥ = λ u. ne (sym u) in let b = head_begin kj.theirs kj.same ej in rw (onward_other A.held y j l f phase.Find t.count (one j (Report Nothing)) k1.inside ne, to_other y j (Report Nothing) nj, append-nil) (beside_begin l f phase.Find Found j (joining t j l f phase.Find A.held).find_count None (eqb (t.weight i j) f) true J k1.mine k1.theirs k1.same b.up ne b.rises b.top (inr (none_laid A.held j t.count y (none_waits A.held.find_count (branches_but A.held j t.count) c2) k1.inside ne)) (inr (refl, refl, refl)) b.now b.asked e)
+acts_beside {t} {i} {y} {j} {A} {B} {J} {p = p} {q} k1 kj ft ij ne nw lab late ej (Searches-report {l} {f} c1 c2 c3) e = let nj : j ≡ y → ⊥ = λ u. ne (sym u) in let b = head_begin kj.theirs kj.same ej in rw (onward_other A.held y j l f phase.Find t.count (one j (Report None)) k1.inside ne, to_other y j (Report None) nj, append-nil) (beside_begin l f phase.Find Found j (joining t j l f phase.Find A.held).find_count None (eqb (t.weight i j) f) true J k1.mine k1.theirs k1.same b.up ne b.rises b.top (inr (none_laid A.held j t.count y (none_waits A.held.find_count (branches_but A.held j t.count) c2) k1.inside ne)) (inr (refl, refl, refl)) b.now b.asked e)
 acts_beside {t} {i} {y} {j} {A} {B} {J} {p = p} {q} k1 kj ft ij ne nw lab late ej (Searches-wait {l} {f} c1 c2) e = let nj : j ≡ y → ⊥ = λ u. ne (sym u) in let b = head_begin kj.theirs kj.same ej in rw (onward_other A.held y j l f phase.Find t.count [] k1.inside ne, append-nil) (beside_begin l f phase.Find Find j (joining t j l f phase.Find A.held).find_count None (eqb (t.weight i j) f) false J k1.mine k1.theirs k1.same b.up ne b.rises b.top (inl refl) (inl (refl, refl)) b.now b.asked e)
 acts_beside {t} {i} {y} {j} {A} {B} {J} {p = p} {q} k1 kj ft ij ne nw lab late ej (Accepts {l} {f} c1 c2) e = let nj : j ≡ y → ⊥ = λ u. ne (sym u) in rw (to_other y j Accept nj, append-nil) (tunes A.held.status A.held.mark A.held.find_count A.held.best A.held.best_weight A.held.testing J k1.mine (inr (refl, refl, refl)) (inl refl) k1.same e)
 acts_beside {t} {i} {y} {j} {A} {B} {J} {p = p} {q} k1 kj ft ij ne nw lab late ej (Rejects {l} {f} c1 c2 c3) e = let nj : j ≡ y → ⊥ = λ u. ne (sym u) in rw (to_other y j Reject nj, append-nil) (tunes (rejecting j A.held).status (rejecting j A.held).mark (rejecting j A.held).find_count (rejecting j A.held).best (rejecting j A.held).best_weight (rejecting j A.held).testing J k1.mine (inr (refl, refl, refl)) (inl (ruled_else A.held y j ne)) k1.same e)
 acts_beside {t} {i} {y} {j} {A} {B} {J} {p = p} {q} k1 kj ft ij ne nw lab late ej (Crosses-ask {l} {f} k c1 c2 c3 c4) e = let nj : j ≡ y → ⊥ = λ u. ne (sym u) in rw (test_none y k A.held.level A.held.name, append-nil) (tunes (testing_now (Some k) (rejecting j A.held)).status (testing_now (Some k) (rejecting j A.held)).mark (testing_now (Some k) (rejecting j A.held)).find_count (testing_now (Some k) (rejecting j A.held)).best (testing_now (Some k) (rejecting j A.held)).best_weight (testing_now (Some k) (rejecting j A.held)).testing J k1.mine (inr (refl, refl, refl)) (inl (ruled_else A.held y j ne)) k1.same e)
 acts_beside {t} {i} {y} {j} {A} {B} {J} {p = p} {q} k1 kj ft ij ne nw lab late ej (Crosses-report {l} {f} c1 c2 c3 c4 c5 c6) e = let nj : j ≡ y → ⊥ = λ u. ne (sym u) in reporting (finding (testing_now None (rejecting j A.held))).mark (finding (testing_now None (rejecting j A.held))).find_count (finding (testing_now None (rejecting j A.held))).best (finding (testing_now None (rejecting j A.held))).best_weight (finding (testing_now None (rejecting j A.held))).testing J k1.mine k1.theirs (inl (ruled_else A.held y j ne)) k1.same (asking k1.asks c3) (k1.quiet c5 (asking k1.asks c3)) (not_lighter A.held.best_weight) e
 acts_beside {t} {i} {y} {j} {A} {B} {J} {p = p} {q} k1 kj ft ij ne nw lab late ej (Crosses-wait {l} {f} c1 c2 c3 c4 c5) e = let nj : j ≡ y → ⊥ = λ u. ne (sym u) in rw append-nil (tunes (testing_now None (rejecting j A.held)).status (testing_now None (rejecting j A.held)).mark (testing_now None (rejecting j A.held)).find_count (testing_now None (rejecting j A.held)).best (testing_now None (rejecting j A.held)).best_weight (testing_now None (rejecting j A.held)).testing J k1.mine (inr (refl, refl, refl)) (inl (ruled_else A.held y j ne)) k1.same e)
-acts_beside {t} {i} {y} {j} {A} {B} {J} {p = p} {q} k1 kj ft ij ne nw lab late ej (Accepted-report c1 c2) e = let nj : j ≡ y → ⊥ = λ u. ne (sym u) in reporting (finding (bettering j (Weight (t.weight i j)) (testing_now None A.held))).mark (finding (bettering j (Weight (t.weight i j)) (testing_now None A.held))).find_count (finding (bettering j (Weight (t.weight i j)) (testing_now None A.held))).best (finding (bettering j (Weight (t.weight i j)) (testing_now None A.held))).best_weight (finding (bettering j (Weight (t.weight i j)) (testing_now None A.held))).testing J k1.mine k1.theirs (inl refl) k1.same (ft) (k1.quiet c1 ft) (no_heavier (Weight (t.weight i j)) A.held.best_weight) e
-acts_beside {t} {i} {y} {j} {A} {B} {J} {p = p} {q} k1 kj ft ij ne nw lab late ej (Accepted-wait c1) e = let nj : j ≡ y → ⊥ = λ u. ne (sym u) in rw append-nil (tunes (bettering j (Weight (t.weight i j)) (testing_now None A.held)).status (bettering j (Weight (t.weight i j)) (testing_now None A.held)).mark (bettering j (Weight (t.weight i j)) (testing_now None A.held)).find_count (bettering j (Weight (t.weight i j)) (testing_now None A.held)).best (bettering j (Weight (t.weight i j)) (testing_now None A.held)).best_weight (bettering j (Weight (t.weight i j)) (testing_now None A.held)).testing J k1.mine (inl (ft, ft)) (inl refl) k1.same e)
+acts_beside {t} {i} {y} {j} {A} {B} {J} {p = p} {q} k1 kj ft ij ne nw lab late ej (Accepted-report c1 c2) e = let nj : j ≡ y → ⊥ = λ u. ne (sym u) in reporting (finding (bettering j (Some (t.weight i j)) (testing_now None A.held))).mark (finding (bettering j (Some (t.weight i j)) (testing_now None A.held))).find_count (finding (bettering j (Some (t.weight i j)) (testing_now None A.held))).best (finding (bettering j (Some (t.weight i j)) (testing_now None A.held))).best_weight (finding (bettering j (Some (t.weight i j)) (testing_now None A.held))).testing J k1.mine k1.theirs (inl refl) k1.same (ft) (k1.quiet c1 ft) (no_heavier (Some (t.weight i j)) A.held.best_weight) e
+acts_beside {t} {i} {y} {j} {A} {B} {J} {p = p} {q} k1 kj ft ij ne nw lab late ej (Accepted-wait c1) e = let nj : j ≡ y → ⊥ = λ u. ne (sym u) in rw append-nil (tunes (bettering j (Some (t.weight i j)) (testing_now None A.held)).status (bettering j (Some (t.weight i j)) (testing_now None A.held)).mark (bettering j (Some (t.weight i j)) (testing_now None A.held)).find_count (bettering j (Some (t.weight i j)) (testing_now None A.held)).best (bettering j (Some (t.weight i j)) (testing_now None A.held)).best_weight (bettering j (Some (t.weight i j)) (testing_now None A.held)).testing J k1.mine (inl (ft, ft)) (inl refl) k1.same e)
 acts_beside {t} {i} {y} {j} {A} {B} {J} {p = p} {q} k1 kj ft ij ne nw lab late ej (Rejected-ask k c1) e = let nj : j ≡ y → ⊥ = λ u. ne (sym u) in rw (test_none y k A.held.level A.held.name, append-nil) (tunes (testing_now (Some k) (rejecting j A.held)).status (testing_now (Some k) (rejecting j A.held)).mark (testing_now (Some k) (rejecting j A.held)).find_count (testing_now (Some k) (rejecting j A.held)).best (testing_now (Some k) (rejecting j A.held)).best_weight (testing_now (Some k) (rejecting j A.held)).testing J k1.mine (inr (refl, refl, refl)) (inl (ruled_else A.held y j ne)) k1.same e)
 acts_beside {t} {i} {y} {j} {A} {B} {J} {p = p} {q} k1 kj ft ij ne nw lab late ej (Rejected-report c1 c2 c3) e = let nj : j ≡ y → ⊥ = λ u. ne (sym u) in reporting (finding (testing_now None (rejecting j A.held))).mark (finding (testing_now None (rejecting j A.held))).find_count (finding (testing_now None (rejecting j A.held))).best (finding (testing_now None (rejecting j A.held))).best_weight (finding (testing_now None (rejecting j A.held))).testing J k1.mine k1.theirs (inl (ruled_else A.held y j ne)) k1.same ft.0 (k1.quiet c2 ft.0) (not_lighter A.held.best_weight) e
 acts_beside {t} {i} {y} {j} {A} {B} {J} {p = p} {q} k1 kj ft ij ne nw lab late ej (Rejected-wait c1 c2) e = let nj : j ≡ y → ⊥ = λ u. ne (sym u) in rw append-nil (tunes (testing_now None (rejecting j A.held)).status (testing_now None (rejecting j A.held)).mark (testing_now None (rejecting j A.held)).find_count (testing_now None (rejecting j A.held)).best (testing_now None (rejecting j A.held)).best_weight (testing_now None (rejecting j A.held)).testing J k1.mine (inr (refl, refl, refl)) (inl (ruled_else A.held y j ne)) k1.same e)
@@ -217,5 +215,5 @@ pub record Fresh (y : ℕ) (A B : View) : Type 0 where
   pub differ : A.own.label ≡ B.own.label → ⊥
 
 pub acts_wake : {t : Graph} {i y : ℕ} {A B : View} {g : Held} {os : List Send} {p q : List Message} (J : View) → Fresh y A B → (d : Deed t i A.held woke g os) → Mode i y (t.weight i y) A B p q → Mode i y (t.weight i y) (acted (turn d) g A J) (follow (turn d) A J B) (p ++ control (out_to y os)) q
-acts_wake {t} {i} {y} {A} {B} J f (Alone c1) e = rw append-nil (wake_else i i None Nothing (woken_held true A.held.mark A.held) J refl refl f.level f.mark f.differ e)
-acts_wake {t} {i} {y} {A} {B} J f (WokeTo k c1) e = elim (eqb_tells k y) [ inl u ↦ rw (u.1, to_self y (Connect 0)) (wake_to true (woken_held A.held.halted (put y Branch A.held.mark) A.held) J (laid_here A.held y) refl f.fragment f.level f.mark f.differ e) | inr u ↦ rw (to_other y k (Connect 0) u.1, append-nil) (wake_else i k (Some k) (Weight (t.weight i k)) (woken_held A.held.halted (put k Branch A.held.mark) A.held) J (laid_else A.held k y (λ z. u.1 (sym z))) refl f.level f.mark f.differ e) ]
+acts_wake {t} {i} {y} {A} {B} J f (Alone c1) e = rw append-nil (wake_else i i None None (woken_held true A.held.mark A.held) J refl refl f.level f.mark f.differ e)
+acts_wake {t} {i} {y} {A} {B} J f (WokeTo k c1) e = elim (eqb_tells k y) [ inl u ↦ rw (u.1, to_self y (Connect 0)) (wake_to true (woken_held A.held.halted (put y Branch A.held.mark) A.held) J (laid_here A.held y) refl f.fragment f.level f.mark f.differ e) | inr u ↦ rw (to_other y k (Connect 0) u.1, append-nil) (wake_else i k (Some k) (Some (t.weight i k)) (woken_held A.held.halted (put k Branch A.held.mark) A.held) J (laid_else A.held k y (λ z. u.1 (sym z))) refl f.level f.mark f.differ e) ]

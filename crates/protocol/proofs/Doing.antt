@@ -5,10 +5,10 @@ use Rattle.std.proofs.lemmas.List.{get_or-set_other}
 use Rattle.message.specs.declared.messages.Message.{Message}
 use Rattle.message.specs.declared.messages.Message.TheVariants.{Test, Report}
 use Rattle.message.specs.declared.messages.Phase.{Phase}
-use Rattle.node.specs.declared.state.Mark.TheVariants.{Basic, Rejected}
+use Rattle.graph.specs.declared.mark.Mark.TheVariants.{Basic, Rejected}
 use Rattle.node.specs.declared.state.Node.{Node}
 use Rattle.node.specs.declared.state.Turn.{Turn}
-use Rattle.node.specs.Rules.{is_basic, Sends, has_edge, mark_of, silent, sending, lightest}
+use Rattle.node.specs.Rules.{is_basic, Sends, has_edge, mark_of, silent, sending, lightest, has_basic}
 use Rattle.node.specs.Laws.{Within, There}
 use Rattle.graph.specs.Graph.{Graph}
 use Rattle.protocol.proofs.Bridge.{Bridged, below-++, sent_none, sent_one, sent_to}
@@ -39,13 +39,13 @@ reports_is o x = go (eqb o.find_count 0 && not (is_some o.testing)) refl
     go false e = waiting e
 
 pub data Tested (o : Node) (x : Sends) : Turn → Type 0 where
-  asked : (j : ℕ) → lightest o false 16 ≡ Some j → Tested o x (rules.turn (rules.testing (Some j) o) (sending j (Test o.level o.name) x))
-  nobody : {t : Turn} → lightest o false 16 ≡ None → Reported (rules.testing None o) x t → Tested o x t
+  asked : (j : ℕ) → lightest o (has_basic o) 16 ≡ Some j → Tested o x (rules.turn (rules.testing (Some j) o) (sending j (Test o.level o.name) x))
+  nobody : {t : Turn} → lightest o (has_basic o) 16 ≡ None → Reported (rules.testing None o) x t → Tested o x t
 
 pub tests_is : (o : Node) (x : Sends) → Tested o x (rules.tests o x)
-tests_is o x = go (lightest o false 16) refl
+tests_is o x = go (lightest o (has_basic o) 16) refl
   where
-    go : (w : Option ℕ) → lightest o false 16 ≡ w → Tested o x (rules.tests_by w o x)
+    go : (w : Option ℕ) → lightest o (has_basic o) 16 ≡ w → Tested o x (rules.tests_by w o x)
     go None e = nobody e (reports_is (rules.testing None o) x)
     go (Some j) e = asked j e
 
@@ -101,7 +101,7 @@ module _ (g : Graph) (i : ℕ) (near : List ℕ) (n : Node) (s : Shape g i near 
     pub ask_bridged : (t : Turn) → Tested o x t → Bridged g i near n inp t
     ask_bridged _ (asked j e) =
         let p = picks_basic g i near o so j e in
-        let b : is_basic (mark_of o j) ≡ true = let l = lightest_picked o false 16 j e in grind arith in
+        let b : is_basic (mark_of o j) ≡ true = let l = lightest_picked o (has_basic o) 16 j e in grind arith in
         record { os = pre ++ one (at j) (Test o.level o.name); deed = ask (at j) p.1; below = below-++ g.count pre (one (at j) (Test o.level o.name)) early ((so.real j p.0).1, tt); sent = sentAsk j (Test o.level o.name) p.0 b }
     ask_bridged _ (nobody e (reported a b)) =
         let z = nobody_basic g i near o so e inside in

@@ -2,10 +2,9 @@
 use Rattle.std.proofs.Common.{◌≡◌, ℕ, ◌+◌, ◌<◌, Bool, true, false, cond, not, ◌&&◌, eqb, List, [], ◌++◌, length, get_or, is_some, Some, None, Option, sym, refl, ap, ◌∙◌, subst, arith}
 use Rattle.message.specs.declared.messages.Message.{Message}
 use Rattle.message.specs.declared.messages.Message.TheVariants.{Connect, Initiate, Test, Report, Change}
-use Rattle.message.specs.declared.messages.Outgoing.TheVariants.{Nothing}
 use Rattle.message.specs.declared.messages.Phase.{Phase}
-use Rattle.node.specs.declared.state.Mark.{Mark}
-use Rattle.node.specs.declared.state.Mark.TheVariants.{Basic, Branch, Rejected}
+use Rattle.graph.specs.declared.mark.Mark.{Mark}
+use Rattle.graph.specs.declared.mark.Mark.TheVariants.{Basic, Branch, Rejected}
 use Rattle.node.specs.declared.state.Node.{Node}
 use Rattle.node.specs.declared.state.Turn.{Turn}
 use Rattle.node.specs.Rules.{is_basic, is_branch, is_find, status_of, is_finding, is_edge, Sends, has_edge, mark_of, goes_on, silent, sending}
@@ -37,7 +36,7 @@ module _ (g : Graph) (i : ℕ) (near : List ℕ) (n : Node) (s : Shape g i near 
 
   pub held_joining : (j l f c : ℕ) (p : Phase) → c ≡ n.find_count + cond (is_finding p) (branches_but k (at j) g.count) 0 → held_of near (rules.joining j l f p c n) ≡ joining g (at j) l f p k
   held_joining j l f c p e =
-      λ u. record { status = status_of p; mark = k.mark; level = l; name = f; find_count = e u; parent = Some (at j); best = None; best_weight = Nothing; testing = k.testing; halted = n.halted }
+      λ u. record { status = status_of p; mark = k.mark; level = l; name = f; find_count = e u; parent = Some (at j); best = None; best_weight = None; testing = k.testing; halted = n.halted }
 
   -- it joins a search
   pub search_bridged : (j l f : ℕ) → has_edge n j ≡ true → Bridged g i near n (got (at j) (Initiate l f phase.Find)) (rules.tests (rules.joining j l f phase.Find (n.find_count + rules.branches_but n j 16) n) (rules.onward n j (Initiate l f phase.Find) 16))
@@ -45,7 +44,7 @@ module _ (g : Graph) (i : ℕ) (near : List ℕ) (n : Node) (s : Shape g i near 
       ask_bridged g i near n s inside (got (at j) m) o x pre (shape_joining g i near n s inside j l f phase.Find c e) (below_onward k (at j) m g.count g.count (omega arith))
       (λ y z p b. sent_more g i near n s inside j m y z q p (basic y b)) (λ z. sent_more g i near n s inside j m j z q q back) (sent_onward g i near n s inside j m q)
       (λ y p. subst (λ v. Deed g i k (got (at j) m) (testing_now (Some y) v) (pre ++ one y (Test l f))) (sym h) (Searches-ask y (subst (λ v. Picks g i (opens v) y) h p)))
-      (λ z a. subst (λ v. Deed g i k (got (at j) m) (finding (testing_now None v)) (pre ++ one (at j) (Report Nothing))) (sym h) (Searches-report (subst (λ v. Nobody g i (opens v)) h z) (count a) refl))
+      (λ z a. subst (λ v. Deed g i k (got (at j) m) (finding (testing_now None v)) (pre ++ one (at j) (Report None))) (sym h) (Searches-report (subst (λ v. Nobody g i (opens v)) h z) (count a) refl))
       (λ z a. subst (λ v. Deed g i k (got (at j) m) (testing_now None v) (pre ++ [])) (sym h) (Searches-wait (subst (λ v. Nobody g i (opens v)) h z) (unready a)))
       (rules.tests o x) (tests_is o x)
     where

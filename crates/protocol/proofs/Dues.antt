@@ -3,12 +3,11 @@ use Rattle.std.proofs.Common.{◌≡◌, ℕ, ◌+◌, ◌<◌, ◌≤◌, Bool,
 use native.Mathlib.Decide.{dec_lt}
 use Rattle.message.specs.declared.messages.Message.{Message}
 use Rattle.message.specs.declared.messages.Message.TheVariants.{Connect, Initiate, Test, Accept, Reject, Report, Change}
-use Rattle.message.specs.declared.messages.Outgoing.{Outgoing}
 use Rattle.message.specs.declared.messages.Phase.{Phase}
 use Rattle.node.specs.declared.state.Status.{Status}
 use Rattle.node.specs.declared.state.Status.TheVariants.{Sleeping, Find}
-use Rattle.node.specs.declared.state.Mark.{Mark}
-use Rattle.node.specs.declared.state.Mark.TheVariants.{Basic, Branch, Rejected}
+use Rattle.graph.specs.declared.mark.Mark.{Mark}
+use Rattle.graph.specs.declared.mark.Mark.TheVariants.{Basic, Branch, Rejected}
 use Rattle.node.specs.Rules.{lighter}
 use Rattle.graph.specs.Graph.{Graph, Edge, Weights}
 use Rattle.protocol.proofs.Books.{is_init, inits, inits_to}
@@ -56,7 +55,7 @@ pub inits_ctl : (q : List Message) → inits (control q) ≡ inits q
 inits_ctl [] = refl
 inits_ctl (m ∷ q) = let ih = inits_ctl q in let e = inits1 m (control q) in omega arith
 
-half : (r : Bool) (b L k n : ℕ) (z : Outgoing) (S : Phase) → b + 1 ≤ L → b + inits (Initiate k n S ∷ cond r (Report z ∷ []) []) ≤ L
+half : (r : Bool) (b L k n : ℕ) (z : Option ℕ) (S : Phase) → b + 1 ≤ L → b + inits (Initiate k n S ∷ cond r (Report z ∷ []) []) ≤ L
 half true b L k n z S l = l
 half false b L k n z S l = l
 
@@ -119,7 +118,7 @@ owes_init (told v) sa same = grind arith
 owes_init (above v) sa same = grind arith
 owes_init (below v) sa same = grind arith
 
-owes_report : {i j w : ℕ} {A J : View} {p q : List Message} {r : Outgoing} → Mode i j w A J p (Report r ∷ q) → Sane j A → (A.held.parent ≡ Some j → ⊥) → A.own.reported ≡ false
+owes_report : {i j w : ℕ} {A J : View} {p q : List Message} {r : Option ℕ} → Mode i j w A J p (Report r ∷ q) → Sane j A → (A.held.parent ≡ Some j → ⊥) → A.own.reported ≡ false
 owes_report (free v) sa u = grind arith
 owes_report (offered v) sa u = grind arith
 owes_report (offers v) sa u = grind arith
@@ -135,7 +134,7 @@ owes_report (told v) sa u = grind arith
 owes_report (above v) sa u = grind arith
 owes_report (below v) sa u = grind arith
 
-owes_turn : {i j w : ℕ} {A J : View} {p q : List Message} {r : Outgoing} → Mode i j w A J p (Report r ∷ q) → Sane j A → (A.own.label ≡ J.own.label → A.fragment ≡ J.fragment) → A.held.parent ≡ Some j → (A.held.status ≡ Find → ⊥) → lighter A.held.best_weight r ≡ true → (A.own.changed ≡ false) × (A.held.level ≡ A.fragment.level)
+owes_turn : {i j w : ℕ} {A J : View} {p q : List Message} {r : Option ℕ} → Mode i j w A J p (Report r ∷ q) → Sane j A → (A.own.label ≡ J.own.label → A.fragment ≡ J.fragment) → A.held.parent ≡ Some j → (A.held.status ≡ Find → ⊥) → lighter A.held.best_weight r ≡ true → (A.own.changed ≡ false) × (A.held.level ≡ A.fragment.level)
 owes_turn (free v) sa same u st le = grind arith
 owes_turn (offered v) sa same u st le = grind arith
 owes_turn (offers v) sa same u st le = grind arith

@@ -1,10 +1,8 @@
 -- Every edge stays in one of its ways.
-use Rattle.std.proofs.Common.{◌≡◌, ℕ, ◌-◌, ◌≤◌, true, false, eqb, ◌⊎◌, List, [], ◌∷◌, ◌++◌, Some, None, sym, refl, ap, ◌∙◌, subst, inl, inr, arith}
+use Rattle.std.proofs.Common.{◌≡◌, ℕ, ◌-◌, ◌≤◌, true, false, eqb, ◌⊎◌, List, [], ◌∷◌, ◌++◌, Some, None, sym, refl, ap, ◌∙◌, subst, inl, inr, arith, Option}
 use Rattle.std.proofs.lemmas.Bool.Decides.{eqb_tells}
 use Rattle.message.specs.declared.messages.Message.{Message}
 use Rattle.message.specs.declared.messages.Message.TheVariants.{Connect, Initiate, Test, Accept, Reject, Report, Change}
-use Rattle.message.specs.declared.messages.Outgoing.{Outgoing}
-use Rattle.message.specs.declared.messages.Outgoing.TheVariants.{Nothing, Weight}
 use Rattle.node.specs.declared.state.Status.TheVariants.{Sleeping}
 use Rattle.graph.specs.Graph.{Graph, Edge, Weights}
 use Rattle.protocol.proofs.Control.{control1, control, control-++, control_off}
@@ -48,8 +46,8 @@ aside {t} {i} {j} {C = C} {J} kj sa sb lab nw ap ej (Changed-passes k c1 c2) e =
 aside {t} {i} {j} {C = C} {J} kj sa sb lab nw ap ej (Changed-joins k c1 c2) e = let d = head_change kj.same ej in else_change i k C J lab.ac lab.bc ap d.sends d.gets e
 
 aside_wake : {t : Graph} {i x y w : ℕ} {A B : View} (C J : View) {g : Held} {os : List Send} {p q : List Message} → (A.own.label ≡ C.own.label → ⊥) → (B.own.label ≡ C.own.label → ⊥) → (d : Deed t i C.held woke g os) → Mode x y w A B p q → Mode x y w (follow (turn d) C J A) (follow (turn d) C J B) p q
-aside_wake {t} {i} C J a b (Alone c1) e = else_starts i i None Nothing C J a b e
-aside_wake {t} {i} C J a b (WokeTo k c1) e = else_starts i k (Some k) (Weight (t.weight i k)) C J a b e
+aside_wake {t} {i} C J a b (Alone c1) e = else_starts i i None None C J a b e
+aside_wake {t} {i} C J a b (WokeTo k c1) e = else_starts i k (Some k) (Some (t.weight i k)) C J a b e
 
 -- the two ends change places
 pub flip : {x y w : ℕ} {A B : View} {p q : List Message} → (A.own.label ≡ B.own.label → A.fragment ≡ B.fragment) → Mode x y w A B p q → Mode y x w B A q p
@@ -88,7 +86,7 @@ pub record Rest (t : Graph) (n : Lifted) (γ : Ghost) : Type 0 where
   pub suits : (i j : ℕ) (x : Message) (rest : List Message) → n.way j i ≡ x ∷ rest → Edge t i j × Suits x (view n γ i) (view n γ j)
   pub fresh : (i y : ℕ) → (n.held i).status ≡ Sleeping → Edge t i y → Fresh y (view n γ i) (view n γ y)
   pub lone : (i a : ℕ) → (n.held i).status ≡ Sleeping → (a ≡ i → ⊥) → (γ.own a).label ≡ (γ.own i).label → ⊥
-  pub late : (i j y : ℕ) (r : Outgoing) (rest : List Message) → n.way j i ≡ Report r ∷ rest → ((n.held i).parent ≡ Some j → ⊥) → (n.held i).find_count - 1 ≡ 0 → (y ≡ j → ⊥) → Edge t i y → Quiet i y (view n γ i) (view n γ y) (control (n.way i y)) (control (n.way y i))
+  pub late : (i j y : ℕ) (r : Option ℕ) (rest : List Message) → n.way j i ≡ Report r ∷ rest → ((n.held i).parent ≡ Some j → ⊥) → (n.held i).find_count - 1 ≡ 0 → (y ≡ j → ⊥) → Edge t i y → Quiet i y (view n γ i) (view n γ y) (control (n.way i y)) (control (n.way y i))
 
 abbrev pub At : Graph → Lifted → Ghost → ℕ → ℕ → Type 0
 At t n γ a b = Mode a b (t.weight a b) (view n γ a) (view n γ b) (control (n.way a b)) (control (n.way b a))
@@ -174,7 +172,7 @@ module _ (t : Graph) (weights : Weights t) where
         over = along (view_acted (turn c.does) i (view n γ j) γ n m g c.self) (view_else (turn c.does) i (view n γ i) (view n γ j) γ m j (n.held j) (c.others j nj) nj) (sent j nj) (ap control (left (c.took j nj)))
             (acts_over (shorter x kj) c.ready.awake fj.1 c.does ej)
 
-        late : (b ≡ j → ⊥) → (r : Outgoing) → x ≡ Report r → ((n.held i).parent ≡ Some j → ⊥) → (n.held i).find_count - 1 ≡ 0 → Quiet i b (view n γ i) (view n γ b) (control (n.way i b)) (control (n.way b i))
+        late : (b ≡ j → ⊥) → (r : Option ℕ) → x ≡ Report r → ((n.held i).parent ≡ Some j → ⊥) → (n.held i).find_count - 1 ≡ 0 → Quiet i b (view n γ i) (view n γ b) (control (n.way i b)) (control (n.way b i))
         late d r e u z = R.late i j b r rest (from ∙ ap (λ y. y ∷ rest) e) u z d l
 
         differ : (b ≡ j → ⊥) → t.weight i b ≡ t.weight i j → ⊥

@@ -1,9 +1,7 @@
 -- What a turn elsewhere does to an edge: labels that differ stay different.
-use Rattle.std.proofs.Common.{◌≡◌, ℕ, ◌<◌, ◌≤◌, Bool, true, false, eqb, ◌⊎◌, List, Option, ap, inl, inr, arith}
+use Rattle.std.proofs.Common.{◌≡◌, ℕ, ◌<◌, ◌≤◌, Bool, true, false, eqb, ◌⊎◌, List, Option, ap, inl, inr, arith, None, Some}
 use Rattle.std.proofs.lemmas.Bool.Decides.{eqb_tells}
 use Rattle.message.specs.declared.messages.Message.{Message}
-use Rattle.message.specs.declared.messages.Outgoing.{Outgoing}
-use Rattle.message.specs.declared.messages.Outgoing.TheVariants.{Nothing, Weight}
 use Rattle.node.specs.declared.state.Status.TheVariants.{Find}
 use Rattle.protocol.proofs.Ghost.{undecided, decided, View, idle, starts, absorb, merge, begin, report, decide, change, end, follow}
 use Rattle.protocol.proofs.Mode.{tells, Connecting, Crossing, Changing, Heard, Mode, free, offered, offers, crossing, took, taken, merged, ahead, behind, core, told, above, below, Sane}
@@ -45,7 +43,7 @@ merge_offered : {x y w : ℕ} (z : ℕ) {A B : View} (C J : View) {p q : List Me
 merge_offered z C J a b v = record { mark_a = v.mark_a; mark_b = v.mark_b; out = v.out; back = v.back; differ = λ u. grind arith; up_b = v.up_b; changed_b = v.changed_b; current_b = grind arith; least_b = grind arith; levels = v.levels; sends_b = grind arith; gets_b = grind arith }
 
 -- z is how long the edge of the connect is
-pub else_absorb : {x y w z i j : ℕ} {A B C J : View} {p q : List Message} → Labels A B C J → Sane y A → Sane x B → (w ≡ z → ⊥) → Apart x y i j → C.held.level ≤ C.fragment.level → J.held.level < C.held.level → J.held.level ≡ J.fragment.level → J.fragment.least ≡ decided (Weight z) → J.fragment.sends ≡ j → J.fragment.gets ≡ i → (C.own.label ≡ J.own.label → ⊥) →
+pub else_absorb : {x y w z i j : ℕ} {A B C J : View} {p q : List Message} → Labels A B C J → Sane y A → Sane x B → (w ≡ z → ⊥) → Apart x y i j → C.held.level ≤ C.fragment.level → J.held.level < C.held.level → J.held.level ≡ J.fragment.level → J.fragment.least ≡ decided (Some z) → J.fragment.sends ≡ j → J.fragment.gets ≡ i → (C.own.label ≡ J.own.label → ⊥) →
     Mode x y w A B p q → Mode x y w (follow absorb C J A) (follow absorb C J B) p q
 else_absorb {x} {y} {w} {z} {i} {j} {A} {B} {C} {J} {p} {q} n a b d m c l k f js jg e (free v) = free (grind arith)
 else_absorb {x} {y} {w} {z} {i} {j} {A} {B} {C} {J} {p} {q} n a b d m c l k f js jg e (offered v) = offered (absorb_offered C J (λ u. grind arith) (λ u h. grind arith) n.bc v)
@@ -63,7 +61,7 @@ else_absorb {x} {y} {w} {z} {i} {j} {A} {B} {C} {J} {p} {q} n a b d m c l k f js
 else_absorb {x} {y} {w} {z} {i} {j} {A} {B} {C} {J} {p} {q} n a b d m c l k f js jg e (below v) = elim (eqb_tells B.own.label J.own.label) [ inl t ↦ let eb : eqb A.own.label J.own.label ≡ true = grind arith in let lt : B.held.level < C.fragment.level = grind arith in let sk : B.held.status ≡ Find → ⊥ = λ u. grind arith in let tk : A.held.status ≡ Find → ⊥ = λ u. grind arith in below (record { mark_a = grind arith; mark_b = grind arith; same = grind arith; up_a = grind arith; up_b = grind arith; down = v.down; back = grind arith; asked = λ u h. grind arith; finds = grind arith; spent = grind arith; rank = grind arith; alike = grind arith; calmer = λ u. grind arith; heard = λ u h z. grind arith }) | inr t ↦ let eb : eqb A.own.label J.own.label ≡ false = grind arith in below (record { mark_a = grind arith; mark_b = grind arith; same = grind arith; up_a = grind arith; up_b = grind arith; down = v.down; back = grind arith; asked = λ u h. grind arith; finds = grind arith; spent = grind arith; rank = grind arith; alike = grind arith; calmer = λ u. grind arith; heard = λ u h z. let o = v.heard (grind arith) h (grind arith) in (grind arith, o.1) }) ]
 
 -- the first of the two connects of one level
-pub else_merge : {x y w z i j : ℕ} {A B C J : View} {p q : List Message} → Labels A B C J → Sane y A → Sane x B → (w ≡ z → ⊥) → Apart x y i j → C.held.level ≡ C.fragment.level → C.fragment.least ≡ decided (Weight z) → J.held.level ≡ C.held.level → J.held.level ≡ J.fragment.level → J.fragment.least ≡ decided (Weight z) → J.fragment.sends ≡ j → J.fragment.gets ≡ i → C.fragment.sends ≡ i → C.fragment.gets ≡ j → (C.own.label ≡ J.own.label → ⊥) →
+pub else_merge : {x y w z i j : ℕ} {A B C J : View} {p q : List Message} → Labels A B C J → Sane y A → Sane x B → (w ≡ z → ⊥) → Apart x y i j → C.held.level ≡ C.fragment.level → C.fragment.least ≡ decided (Some z) → J.held.level ≡ C.held.level → J.held.level ≡ J.fragment.level → J.fragment.least ≡ decided (Some z) → J.fragment.sends ≡ j → J.fragment.gets ≡ i → C.fragment.sends ≡ i → C.fragment.gets ≡ j → (C.own.label ≡ J.own.label → ⊥) →
     Mode x y w A B p q → Mode x y w (follow (merge z) C J A) (follow (merge z) C J B) p q
 else_merge {x} {y} {w} {z} {i} {j} {A} {B} {C} {J} {p} {q} n a b d m c f l k o js jg cs cg e (free v) = free (grind arith)
 else_merge {x} {y} {w} {z} {i} {j} {A} {B} {C} {J} {p} {q} n a b d m c f l k o js jg cs cg e (offered v) = offered (merge_offered z C J (λ u. grind arith) (λ u. grind arith) v)
@@ -114,7 +112,7 @@ else_decide {x} {y} {w} {z} me k {A} {B} {C} {J} {p} {q} n a b d e f (told v) = 
 else_decide {x} {y} {w} {z} me k {A} {B} {C} {J} {p} {q} n a b d e f (above v) = above (record { mark_a = grind arith; mark_b = grind arith; same = grind arith; up_a = grind arith; up_b = grind arith; down = v.down; back = grind arith; asked = λ u h. grind arith; finds = grind arith; spent = grind arith; rank = grind arith; alike = grind arith; calmer = λ u. grind arith; heard = λ u h z. let o = v.heard (grind arith) h (grind arith) in (grind arith, o.1) })
 else_decide {x} {y} {w} {z} me k {A} {B} {C} {J} {p} {q} n a b d e f (below v) = below (record { mark_a = grind arith; mark_b = grind arith; same = grind arith; up_a = grind arith; up_b = grind arith; down = v.down; back = grind arith; asked = λ u h. grind arith; finds = grind arith; spent = grind arith; rank = grind arith; alike = grind arith; calmer = λ u. grind arith; heard = λ u h z. let o = v.heard (grind arith) h (grind arith) in (grind arith, o.1) })
 
-pub else_end : {x y w z : ℕ} {A B C J : View} {p q : List Message} → Labels A B C J → Sane y A → Sane x B → (w ≡ z → ⊥) → (C.fragment.least ≡ undecided) ⊎ (C.fragment.least ≡ decided Nothing) → C.fragment.name ≡ z →
+pub else_end : {x y w z : ℕ} {A B C J : View} {p q : List Message} → Labels A B C J → Sane y A → Sane x B → (w ≡ z → ⊥) → (C.fragment.least ≡ undecided) ⊎ (C.fragment.least ≡ decided None) → C.fragment.name ≡ z →
     Mode x y w A B p q → Mode x y w (follow end C J A) (follow end C J B) p q
 else_end {x} {y} {w} {z} {A} {B} {C} {J} {p} {q} n a b d e f (free v) = free (grind arith)
 else_end {x} {y} {w} {z} {A} {B} {C} {J} {p} {q} n a b d e f (offered v) = offered (grind arith)
@@ -132,7 +130,7 @@ else_end {x} {y} {w} {z} {A} {B} {C} {J} {p} {q} n a b d e f (above v) = above (
 else_end {x} {y} {w} {z} {A} {B} {C} {J} {p} {q} n a b d e f (below v) = below (record { mark_a = grind arith; mark_b = grind arith; same = grind arith; up_a = grind arith; up_b = grind arith; down = v.down; back = grind arith; asked = λ u h. grind arith; finds = grind arith; spent = grind arith; rank = grind arith; alike = grind arith; calmer = λ u. grind arith; heard = λ u h z. let o = v.heard (grind arith) h (grind arith) in (grind arith, o.1) })
 
 -- who wakes is alone in its fragment
-pub else_starts : {x y w : ℕ} (me b : ℕ) (k : Option ℕ) (z : Outgoing) {A B : View} (C J : View) {p q : List Message} → (A.own.label ≡ C.own.label → ⊥) → (B.own.label ≡ C.own.label → ⊥) → Mode x y w A B p q → Mode x y w (follow (starts me b k z) C J A) (follow (starts me b k z) C J B) p q
+pub else_starts : {x y w : ℕ} (me b : ℕ) (k : Option ℕ) (z : Option ℕ) {A B : View} (C J : View) {p q : List Message} → (A.own.label ≡ C.own.label → ⊥) → (B.own.label ≡ C.own.label → ⊥) → Mode x y w A B p q → Mode x y w (follow (starts me b k z) C J A) (follow (starts me b k z) C J B) p q
 else_starts {x} {y} {w} me b k z {A} {B} C J {p} {q} a0 b0 (free v) = free (grind arith)
 else_starts {x} {y} {w} me b k z {A} {B} C J {p} {q} a0 b0 (offered v) = offered (grind arith)
 else_starts {x} {y} {w} me b k z {A} {B} C J {p} {q} a0 b0 (offers v) = offers (grind arith)

@@ -1,8 +1,6 @@
 -- In a fragment that no edge leads out of nobody has a best edge.
 use Rattle.std.proofs.Common.{◌≡◌, ℕ, suc, ◌≤◌, true, false, cond, T, eqb, ◌⊎◌, List, ◌∷◌, ◌++◌, Some, None, Option, sym, refl, ap, ◌∙◌, subst, inl, inr, arith}
 use Rattle.message.specs.declared.messages.Message.{Message}
-use Rattle.message.specs.declared.messages.Outgoing.{Outgoing}
-use Rattle.message.specs.declared.messages.Outgoing.TheVariants.{Nothing, Weight}
 use Rattle.node.specs.Rules.{lighter}
 use Rattle.graph.specs.Graph.{Graph, Edge, Weights}
 use Rattle.protocol.proofs.All.{Done}
@@ -24,31 +22,31 @@ use Rattle.protocol.proofs.Mode.{Mode}
 
 -- THE INVARIANT, of all nodes as V shows them
 abbrev pub Ended : (ℕ → View) → Type 0
-Ended V = (x : ℕ) → (V x).fragment.least ≡ decided Nothing → 1 ≤ (V x).fragment.level → (V x).held.best_weight ≡ Nothing
+Ended V = (x : ℕ) → (V x).fragment.least ≡ decided None → 1 ≤ (V x).fragment.level → (V x).held.best_weight ≡ None
 
 -- at first nobody has decided
 pub ended_start : Ended (view start first)
 ended_start x e l = absurd (no e)
   where
-    no : undecided ≡ decided Nothing → ⊥
+    no : undecided ≡ decided None → ⊥
     no e = grind arith
 
-decided_of : {v : Outgoing} → decided v ≡ decided Nothing → v ≡ Nothing
+decided_of : {v : Option ℕ} → decided v ≡ decided None → v ≡ None
 decided_of e = cc
 
-not_least : (c k : ℕ) (w : Least) → (c ≡ k → ⊥) → cond (eqb c k) w undecided ≡ decided Nothing → ⊥
+not_least : (c k : ℕ) (w : Least) → (c ≡ k → ⊥) → cond (eqb c k) w undecided ≡ decided None → ⊥
 not_least c k w d e = let f : eqb c k ≡ false = grind arith in grind arith
 
-only_nothing : (b : Outgoing) → lighter b Nothing ≡ false → b ≡ Nothing
-only_nothing Nothing e = refl
-only_nothing (Weight b) e = absurd (some b e)
+only_nothing : (b : Option ℕ) → lighter b None ≡ false → b ≡ None
+only_nothing None e = refl
+only_nothing (Some b) e = absurd (some b e)
 
 module _ (t : Graph) (weights : Weights t) (V V' : ℕ → View) (P : ℕ → ℕ → List Message) (W : World t V P) (O : Outward t V) (F : Finished V) (D : Ended V) where
   -- who is of such a fragment keeps what it has
-  keeps : (a : ℕ) → (V a).fragment.least ≡ decided Nothing → 1 ≤ (V a).fragment.level → (V a).held.best_weight ≡ Nothing → Stays (V a) (V' a) → (V' a).held.best_weight ≡ Nothing
-  keeps a e l b k = let s = F.asked a e in let r = O.answered a Nothing e l s in (k s r.0 r.1).2 ∙ b
+  keeps : (a : ℕ) → (V a).fragment.least ≡ decided None → 1 ≤ (V a).fragment.level → (V a).held.best_weight ≡ None → Stays (V a) (V' a) → (V' a).held.best_weight ≡ None
+  keeps a e l b k = let s = F.asked a e in let r = O.answered a None e l s in (k s r.0 r.1).2 ∙ b
 
-  unmoved : (a : ℕ) → Alike (V a) (V' a) → (V' a).fragment.least ≡ decided Nothing → 1 ≤ (V' a).fragment.level → (V' a).held.best_weight ≡ Nothing
+  unmoved : (a : ℕ) → Alike (V a) (V' a) → (V' a).fragment.least ≡ decided None → 1 ≤ (V' a).fragment.level → (V' a).held.best_weight ≡ None
   unmoved a s e l = let f = sym s.least ∙ e in let g = subst (λ k. 1 ≤ k) s.level l in keeps a f g (D a f g) s.keeps
 
   module _ (i j : ℕ) where
@@ -56,10 +54,10 @@ module _ (t : Graph) (weights : Weights t) (V V' : ℕ → View) (P : ℕ → �
     All u = (a : ℕ) → Steps u (V i) (V j) (V a) (V' a)
 
     -- only those whom the turn concerns are left to show
-    within : (u : Turn) → All u → ((a : ℕ) → inside u (V i) (V j) (V a).own.label ≡ true → (fragments u (V i) (V j)).least ≡ decided Nothing → 1 ≤ (fragments u (V i) (V j)).level → (V' a).held.best_weight ≡ Nothing) → Ended V'
+    within : (u : Turn) → All u → ((a : ℕ) → inside u (V i) (V j) (V a).own.label ≡ true → (fragments u (V i) (V j)).least ≡ decided None → 1 ≤ (fragments u (V i) (V j)).level → (V' a).held.best_weight ≡ None) → Ended V'
     within u S f x e l = go (bool (inside u (V i) (V j) (V x).own.label))
       where
-        go : (inside u (V i) (V j) (V x).own.label ≡ true) ⊎ (inside u (V i) (V j) (V x).own.label ≡ false) → (V' x).held.best_weight ≡ Nothing
+        go : (inside u (V i) (V j) (V x).own.label ≡ true) ⊎ (inside u (V i) (V j) (V x).own.label ≡ false) → (V' x).held.best_weight ≡ None
         go (inl o) = f x o (sym (in_least t V V' P W O i j u S x o) ∙ e) (subst (λ k. 1 ≤ k) ((S x).level ∙ cond-true (inside u (V i) (V j) (V x).own.label) (fragments u (V i) (V j)).level (V x).fragment.level o) l)
         go (inr o) = unmoved x (outside u (V i) (V j) (V x) (V' x) o (S x)) e l
 
@@ -68,23 +66,23 @@ module _ (t : Graph) (weights : Weights t) (V V' : ℕ → View) (P : ℕ → �
 
     -- who takes another fragment in has an edge that leads out
     kept_take : Edge t i j → Absorbing i j (t.weight i j) (V i) (V j) → All absorb → Ended V'
-    kept_take k H S = within absorb S (λ a o e l. absurd (some (t.weight i j) (O.lightest i j k Nothing H.differ e)))
+    kept_take k H S = within absorb S (λ a o e l. absurd (some (t.weight i j) (O.lightest i j k None H.differ e)))
 
     kept_unite : (z : ℕ) → Merging i j (t.weight i j) (V i) (V j) → All (merge z) → Ended V'
     kept_unite z H S = within (merge z) S (λ a o e l. absurd (not_least (V i).own.label (V j).own.label (V i).fragment.least H.differ e))
 
-    kept_settle : (me k : ℕ) → ((V i).held.best_weight ≡ Nothing → ⊥) → All (decide me k) → Ended V'
+    kept_settle : (me k : ℕ) → ((V i).held.best_weight ≡ None → ⊥) → All (decide me k) → Ended V'
     kept_settle me k fin S = within (decide me k) S (λ a o e l. absurd (fin (decided_of e)))
 
     -- when the core ends, nobody has anything lighter than nothing
-    kept_end : (V i).fragment.least ≡ undecided → ((x : ℕ) → (V x).own.label ≡ (V i).own.label → (V x).own.in_search ≡ true → Done Nothing (V x)) → All end → Ended V'
+    kept_end : (V i).fragment.least ≡ undecided → ((x : ℕ) → (V x).own.label ≡ (V i).own.label → (V x).own.in_search ≡ true → Done None (V x)) → All end → Ended V'
     kept_end un done S = within end S (λ a o e l. ends a (label_so (V a).own.label (V i).own.label false refl o))
       where
-        ends : (a : ℕ) → (V a).own.label ≡ (V i).own.label → (V' a).held.best_weight ≡ Nothing
+        ends : (a : ℕ) → (V a).own.label ≡ (V i).own.label → (V' a).held.best_weight ≡ None
         ends a e = let s = all_asked t weights V V' P W O F i j done un a e in let d = done a e s in ((S a).keeps s d.0 d.1).2 ∙ only_nothing (V a).held.best_weight d.2
 
     -- who wakes is of level 0
-    kept_rise : (me b : ℕ) (k : Option ℕ) (z : Outgoing) → (1 ≤ (V i).fragment.level → ⊥) → All (starts me b k z) → Ended V'
+    kept_rise : (me b : ℕ) (k : Option ℕ) (z : Option ℕ) → (1 ≤ (V i).fragment.level → ⊥) → All (starts me b k z) → Ended V'
     kept_rise me b k z low S = within (starts me b k z) S (λ a o e l. absurd (low l))
 
   ended_got : (i j : ℕ) {m : Message} {g : Held} {os : List Send} {p q : List Message} → Edge t i j → Knows t i j (V i) (V j) p q → Mode i j (t.weight i j) (V i) (V j) p (control1 m ++ q) → (d : Deed t i (V i).held (got j m) g os) → ((a : ℕ) → Steps (turn d) (V i) (V j) (V a) (V' a)) → Ended V'
@@ -110,7 +108,7 @@ module _ (t : Graph) (weights : Weights t) (V V' : ℕ → View) (P : ℕ → �
   ended_got i j l kj e (Decides-joins {w = w} k c1 c2 c3 c4 c5) S = kept_settle i j i k (lighter_some (V i).held.best_weight w c3) S
   ended_got i j l kj e (Halts {w = w} c1 c2 c3 c4) S = let n = head_ends kj.same kj.mine c1 c2 (subst (λ r. lighter r (V i).held.best_weight ≡ false) (sym c4) refl) e in
       elim n.least [
-        | inl un ↦ kept_end i j un (core_done t weights V P W i j Nothing l n un c1 (subst (λ b. lighter b Nothing ≡ false) (sym c3) refl) (subst (λ b. lighter b Nothing ≡ false) (sym c4) refl)) S
+        | inl un ↦ kept_end i j un (core_done t weights V P W i j None l n un c1 (subst (λ b. lighter b None ≡ false) (sym c3) refl) (subst (λ b. lighter b None ≡ false) (sym c4) refl)) S
         | inr y ↦ kept_calm i j end (λ k. refl) refl (sym y.0) S
       ]
   ended_got i j l kj e (Rests c1 c2 c3 c4) S = kept_calm i j idle (λ k. refl) refl refl S
@@ -118,8 +116,8 @@ module _ (t : Graph) (weights : Weights t) (V V' : ℕ → View) (P : ℕ → �
   ended_got i j l kj e (Changed-joins k c1 c2) S = kept_calm i j (change i k) (λ k. refl) refl refl S
 
   ended_woke : (i : ℕ) {g : Held} {os : List Send} → (1 ≤ (V i).fragment.level → ⊥) → (d : Deed t i (V i).held woke g os) → ((a : ℕ) → Steps (turn d) (V i) (V i) (V a) (V' a)) → Ended V'
-  ended_woke i low (Alone c1) S = kept_rise i i i i None Nothing low S
-  ended_woke i low (WokeTo k c1) S = kept_rise i i i k (Some k) (Weight (t.weight i k)) low S
+  ended_woke i low (Alone c1) S = kept_rise i i i i None None low S
+  ended_woke i low (WokeTo k c1) S = kept_rise i i i k (Some k) (Some (t.weight i k)) low S
 
 -- THE THEOREM: each step keeps it
 pub ended_kept : (t : Graph) (weights : Weights t) (n m : Lifted) (γ : Ghost) → Trust t n γ → Alones t n γ → Outward t (view n γ) → Finished (view n γ) → Ended (view n γ) → (s : Event t n m) → Ended (view m (next γ s))

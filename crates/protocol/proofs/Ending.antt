@@ -3,10 +3,9 @@ use Rattle.std.proofs.Common.{◌≡◌, ℕ, ◌≤◌, true, false, ◌⊎◌,
 use native.Mathlib.Decide.{dec_lt}
 use Rattle.std.proofs.lemmas.Bool.Decides.{eqb_tells}
 use Rattle.message.specs.declared.messages.Message.{Message}
-use Rattle.message.specs.declared.messages.Outgoing.TheVariants.{Nothing, Weight}
 use Rattle.node.specs.declared.state.Status.TheVariants.{Sleeping, Find}
-use Rattle.node.specs.declared.state.Mark.{Mark}
-use Rattle.node.specs.declared.state.Mark.TheVariants.{Basic, Branch, Rejected}
+use Rattle.graph.specs.declared.mark.Mark.{Mark}
+use Rattle.graph.specs.declared.mark.Mark.TheVariants.{Basic, Branch, Rejected}
 use Rattle.node.specs.Rules.{lighter}
 use Rattle.graph.proofs.Paths.{joined_back}
 use Rattle.graph.specs.Graph.{Graph, Edge, Joined, Weights, Belongs}
@@ -37,7 +36,7 @@ pub record Standing (t : Graph) (n : Lifted) (γ : Ghost) : Type 0 where
   pub asks : (a : ℕ) → ((n.held a).testing ≡ None) ⊎ ((n.held a).status ≡ Find)
 
 -- a node of level 0 that looks up to y inside a fragment that has ended: there is no such node
-none_low : {x y w : ℕ} {A B : View} {p q : List Message} → A.own.label ≡ B.own.label → A.fragment.least ≡ decided Nothing → A.own.up ≡ Some y → A.held.mark y ≡ Branch → A.held.parent ≡ None → A.held.best ≡ None → (B.held.mark x ≡ Branch → B.own.up ≡ Some x) → (A.own.label ≡ B.own.label → A.fragment ≡ B.fragment) → Mode x y w A B p q → ⊥
+none_low : {x y w : ℕ} {A B : View} {p q : List Message} → A.own.label ≡ B.own.label → A.fragment.least ≡ decided None → A.own.up ≡ Some y → A.held.mark y ≡ Branch → A.held.parent ≡ None → A.held.best ≡ None → (B.held.mark x ≡ Branch → B.own.up ≡ Some x) → (A.own.label ≡ B.own.label → A.fragment ≡ B.fragment) → Mode x y w A B p q → ⊥
 none_low s d u k pa be f same (free v) = grind arith
 none_low s d u k pa be f same (offered v) = grind arith
 none_low s d u k pa be f same (offers v) = grind arith
@@ -53,7 +52,7 @@ none_low s d u k pa be f same (told v) = grind arith
 none_low s d u k pa be f same (above v) = grind arith
 none_low s d u k pa be f same (below v) = grind arith
 
-not_yet : undecided ≡ decided Nothing → ⊥
+not_yet : undecided ≡ decided None → ⊥
 not_yet e = grind arith
 
 branch_only : (m : Mark) → (m ≡ Basic → ⊥) → (m ≡ Rejected → ⊥) → m ≡ Branch
@@ -66,12 +65,12 @@ module _ (t : Graph) (weights : Weights t) (n : Lifted) (γ : Ghost) (I : Standi
   abbrev Of : ℕ → Type 0
   Of x = (γ.own x).label ≡ (γ.own h).label
 
-  least_of : (x : ℕ) → Of x → (view n γ x).fragment.least ≡ decided Nothing
+  least_of : (x : ℕ) → Of x → (view n γ x).fragment.least ≡ decided None
   least_of x e = ap (λ l. (γ.fragment l).least) e ∙ I.finished.halts h halted
 
   -- no edge leads out of it
   of_next : (x y : ℕ) → Edge t x y → Of x → Of y
-  of_next x y l e = elim (eqb_tells (γ.own x).label (γ.own y).label) [ inl u ↦ sym u.1 ∙ e | inr u ↦ absurd (some (t.weight x y) (I.outward.lightest x y l Nothing u.1 (least_of x e))) ]
+  of_next x y l e = elim (eqb_tells (γ.own x).label (γ.own y).label) [ inl u ↦ sym u.1 ∙ e | inr u ↦ absurd (some (t.weight x y) (I.outward.lightest x y l None u.1 (least_of x e))) ]
 
   of_joined : {u a c : ℕ} → Joined t u a c → Of a → Of c
   of_joined Joined.here e = e
@@ -110,16 +109,16 @@ module _ (t : Graph) (weights : Weights t) (n : Lifted) (γ : Ghost) (I : Standi
 
   -- all in it were asked, have reported, and have no best edge
   not_high : (x y : ℕ) → Of x → Edge t x y → 1 ≤ (view n γ x).fragment.level → (n.held x).mark y ≡ Basic → ⊥
-  not_high x y e l z u = some (t.weight x y) (subst (λ b. lighter (Weight (t.weight x y)) b ≡ false) (I.ended x d z) ((I.bests.choice x y l).lightest r.0 s quiet (subst (λ k. 1 ≤ k) (sym r.0) z) u))
+  not_high x y e l z u = some (t.weight x y) (subst (λ b. lighter (Some (t.weight x y)) b ≡ false) (I.ended x d z) ((I.bests.choice x y l).lightest r.0 s quiet (subst (λ k. 1 ≤ k) (sym r.0) z) u))
     where
-      d : (view n γ x).fragment.least ≡ decided Nothing
+      d : (view n γ x).fragment.least ≡ decided None
       d = least_of x e
 
       s : (γ.own x).in_search ≡ true
       s = I.finished.asked x d
 
       r : ((n.held x).level ≡ (view n γ x).fragment.level) × ((γ.own x).reported ≡ true)
-      r = I.outward.answered x Nothing d z s
+      r = I.outward.answered x None d z s
 
       quiet : (n.held x).testing ≡ None
       quiet = elim (I.asks x) [ inl a ↦ a | inr a ↦ absurd (not_yet (sym ((I.sane x y l).find_undecided a) ∙ d)) ]

@@ -3,10 +3,9 @@ use Rattle.std.proofs.Common.{◌≡◌, ℕ, zero, suc, ◌+◌, ◌<◌, ◌�
 use Rattle.node.proofs.Within.{within_edges}
 use Rattle.std.proofs.lemmas.Bool.Decides.{eqb_tells}
 use Rattle.message.specs.declared.messages.Message.{Message}
-use Rattle.message.specs.declared.messages.Outgoing.TheVariants.{Nothing}
 use Rattle.node.specs.declared.state.Status.{Status}
 use Rattle.node.specs.declared.state.Status.TheVariants.{Sleeping, Find, Found}
-use Rattle.node.specs.declared.state.Mark.TheVariants.{Basic}
+use Rattle.graph.specs.declared.mark.Mark.TheVariants.{Basic}
 use Rattle.node.specs.declared.state.Node.{Node}
 use Rattle.node.specs.declared.state.Turn.{Turn}
 use Rattle.node.specs.Rules.{is_sleeping, wakes}
@@ -42,7 +41,7 @@ none_basic (a ∷ near) (suc c) j = let ih = none_basic near c j in elim (eqb a 
 -- at first the proof sees nodes as made
 pub lift_start : (g : Graph) (near : Near) → lift near (netStart g near) ≡ start
 lift_start g near =
-    λ p. record { held = λ i. record { status = Sleeping; mark = λ j. none_basic (near i) 16 j p; level = 0; name = 0; find_count = 0; parent = None; best = None; best_weight = Nothing; testing = None; halted = false }; way = λ i j. []; count = 0 }
+    λ p. record { held = λ i. record { status = Sleeping; mark = λ j. none_basic (near i) 16 j p; level = 0; name = 0; find_count = 0; parent = None; best = None; best_weight = None; testing = None; halted = false }; way = λ i j. []; count = 0 }
 
 pub both : (a b i j : ℕ) → ((a ≡ i) × (b ≡ j)) ⊎ ((a ≡ i) × (b ≡ j) → ⊥)
 both a b i j = elim (eqb_tells a i) [ inl x ↦ elim (eqb_tells b j) [ inl y ↦ inl (x.1, y.1) | inr y ↦ inr (λ e. y.1 e.1) ] | inr x ↦ inr (λ e. x.1 e.0) ]

@@ -1,10 +1,8 @@
 -- When both ends of a core have heard each other, one of them has halted, or the core is no more.
-use Rattle.std.proofs.Common.{◌≡◌, ℕ, ◌+◌, Bool, true, false, ◌&&◌, eqb, ◌⊎◌, List, [], ◌∷◌, ◌++◌, Some, Option, sym, refl, ap, ◌∙◌, subst, inl, inr, arith}
+use Rattle.std.proofs.Common.{◌≡◌, ℕ, ◌+◌, Bool, true, false, ◌&&◌, eqb, ◌⊎◌, List, [], ◌∷◌, ◌++◌, Some, Option, sym, refl, ap, ◌∙◌, subst, inl, inr, arith, None}
 use Rattle.std.proofs.lemmas.Bool.Decides.{eqb_tells}
 use Rattle.message.specs.declared.messages.Message.{Message}
 use Rattle.message.specs.declared.messages.Message.TheVariants.{Initiate, Report}
-use Rattle.message.specs.declared.messages.Outgoing.{Outgoing}
-use Rattle.message.specs.declared.messages.Outgoing.TheVariants.{Nothing, Weight}
 use Rattle.message.specs.declared.messages.Phase.{Phase}
 use Rattle.node.specs.Rules.{phase_of, is_nothing, lighter}
 use Rattle.graph.specs.Graph.{Graph, Edge, Weights}
@@ -42,7 +40,7 @@ exchanges_start t a b l e = absurd (let u = e.up_a in grind arith)
 
 -- the message x was a report that told A of nothing lighter, and not both know of nothing
 record Rested (A : View) (x : Message) : Type 0 where
-  r : Outgoing
+  r : Option ℕ
   is : x ≡ Report r
   lighter : lighter A.held.best_weight r ≡ false
   some : (is_nothing r && is_nothing A.held.best_weight) ≡ false
@@ -59,7 +57,7 @@ not_none : {m : Message} {q : List Message} → m ∷ q ≡ [] → ⊥
 not_none e = grind arith
 
 -- a report to the parent is under way
-told_up : (w : Option ℕ) (b : ℕ) (r : Outgoing) → w ≡ Some b → control (out_to b (send_to w (Report r))) ≡ [] → ⊥
+told_up : (w : Option ℕ) (b : ℕ) (r : Option ℕ) → w ≡ Some b → control (out_to b (send_to w (Report r))) ≡ [] → ⊥
 told_up w b r e o = let s = to_self b (Report r) in not_none (sym (ap control s) ∙ sym (ap (λ z. control (out_to b (send_to z (Report r)))) e) ∙ o)
 
 sent_back : (j b l f : ℕ) (s : Phase) → j ≡ b → control (out_to b (one j (Initiate l f s))) ≡ [] → ⊥
@@ -74,7 +72,7 @@ acts A J b g os (Absorbs {j} {l} c1) s u c r o = inr (record { up = u; changed =
 acts {t} {i} A J b g os (Merges {j} {l} c1 c2) s u c r o = inr (record { up = u; changed = c; reported = r; halted = refl; head = λ e. absurd (sent_back j b (A.held.level + 1) (t.weight i j) phase.Find e o) })
 acts A J b g os (Begins {j} {l} {f} {s} c1) z u c r o = absurd (grind arith)
 acts A J b g os (Searches-ask {j} {l} {f} k c1) s u c r o = absurd (grind arith)
-acts {t} A J b g os (Searches-report {j} {l} {f} c1 c2 c3) s u c r o = absurd (let e : j ≡ b = one_some u in told_up (Some j) b Nothing u (sym (onward_self A.held b l f phase.Find t.count (send_to (Some j) (Report Nothing))) ∙ subst (λ k. control (out_to b (onward A.held k (Initiate l f phase.Find) t.count ++ send_to (Some j) (Report Nothing))) ≡ []) e o))
+acts {t} A J b g os (Searches-report {j} {l} {f} c1 c2 c3) s u c r o = absurd (let e : j ≡ b = one_some u in told_up (Some j) b None u (sym (onward_self A.held b l f phase.Find t.count (send_to (Some j) (Report None))) ∙ subst (λ k. control (out_to b (onward A.held k (Initiate l f phase.Find) t.count ++ send_to (Some j) (Report None))) ≡ []) e o))
 acts A J b g os (Searches-wait {j} {l} {f} c1 c2) s u c r o = absurd (grind arith)
 acts A J b g os (Accepts {j} {l} {f} c1 c2) s u c r o = inr (record { up = u; changed = c; reported = r; halted = refl; head = λ e. inl refl })
 acts A J b g os (Rejects {j} {l} {f} c1 c2 c3) s u c r o = inr (record { up = u; changed = c; reported = r; halted = refl; head = λ e. inl refl })
@@ -100,7 +98,7 @@ woke_changed A J (Alone c1) = refl
 woke_changed A J (WokeTo k c1) = refl
 
 -- who leads up to whom it gets a report from, and is led up to by it, is of a core
-report_core : {x y w : ℕ} {A B : View} {p q : List Message} {r : Outgoing} {k : List Message} → q ≡ Report r ∷ k → A.own.up ≡ Some y → B.own.up ≡ Some x → Mode x y w A B p q → Core x y w A B p q
+report_core : {x y w : ℕ} {A B : View} {p q : List Message} {r : Option ℕ} {k : List Message} → q ≡ Report r ∷ k → A.own.up ≡ Some y → B.own.up ≡ Some x → Mode x y w A B p q → Core x y w A B p q
 report_core e a b (free v) = absurd (let o = v.back in grind arith)
 report_core e a b (offered v) = absurd (let o = v.back in grind arith)
 report_core e a b (offers v) = absurd (let o = v.out in grind arith)
@@ -117,16 +115,16 @@ report_core e a b (above v) = absurd (v.up_a a)
 report_core e a b (below v) = absurd (v.up_a b)
 
 -- two weights, neither lighter, and not both nothing
-equal_weights : (a b : Outgoing) → lighter a b ≡ false → lighter b a ≡ false → (is_nothing b && is_nothing a) ≡ false → (v : ℕ) × ((a ≡ Weight v) × (b ≡ Weight v))
-equal_weights Nothing Nothing e f s = absurd (grind arith)
-equal_weights Nothing (Weight b) e f s = absurd (grind arith)
-equal_weights (Weight a) Nothing e f s = absurd (grind arith)
-equal_weights (Weight a) (Weight b) e f s = (a, (refl, ap Weight (same a b e f)))
+equal_weights : (a b : Option ℕ) → lighter a b ≡ false → lighter b a ≡ false → (is_nothing b && is_nothing a) ≡ false → (v : ℕ) × ((a ≡ Some v) × (b ≡ Some v))
+equal_weights None None e f s = absurd (grind arith)
+equal_weights None (Some b) e f s = absurd (grind arith)
+equal_weights (Some a) None e f s = absurd (grind arith)
+equal_weights (Some a) (Some b) e f s = (a, (refl, ap Some (same a b e f)))
   where
-    same : (a b : ℕ) → lighter (Weight a) (Weight b) ≡ false → lighter (Weight b) (Weight a) ≡ false → b ≡ a
+    same : (a b : ℕ) → lighter (Some a) (Some b) ≡ false → lighter (Some b) (Some a) ≡ false → b ≡ a
     same a b e f = grind arith
 
-told_same : (A B : View) {p k : List Message} {r : Outgoing} → p ≡ Report r ∷ k → Told A B p → r ≡ A.held.best_weight
+told_same : (A B : View) {p k : List Message} {r : Option ℕ} → p ≡ Report r ∷ k → Told A B p → r ≡ A.held.best_weight
 told_same A B e (inl h) = absurd (let u = h.0 in grind arith)
 told_same A B e (inr (inl h)) = let u = h.0 in grind arith
 told_same A B e (inr (inr h)) = absurd (let u = h.0 in grind arith)

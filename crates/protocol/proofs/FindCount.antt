@@ -1,13 +1,11 @@
 -- The find count is the number of those a node still waits for, and every step keeps it so.
-use Rattle.std.proofs.Common.{◌≡◌, ℕ, ◌-◌, Bool, true, false, cond, not, ◌&&◌, ◌||◌, eqb, ◌⊎◌, List, [], ◌∷◌, ◌++◌, Some, None, sym, refl, ap, ◌∙◌, subst, inl, inr, arith}
+use Rattle.std.proofs.Common.{◌≡◌, ℕ, ◌-◌, Bool, true, false, cond, not, ◌&&◌, ◌||◌, eqb, ◌⊎◌, List, [], ◌∷◌, ◌++◌, Some, None, sym, refl, ap, ◌∙◌, subst, inl, inr, arith, Option}
 use Rattle.std.proofs.lemmas.Bool.Decides.{eqb_tells}
 use Rattle.message.specs.declared.messages.Message.{Message}
 use Rattle.message.specs.declared.messages.Message.TheVariants.{Report}
-use Rattle.message.specs.declared.messages.Outgoing.{Outgoing}
-use Rattle.message.specs.declared.messages.Outgoing.TheVariants.{Nothing}
 use Rattle.node.specs.declared.state.Status.{Status}
 use Rattle.node.specs.declared.state.Status.TheVariants.{Sleeping, Find, Found}
-use Rattle.node.specs.declared.state.Mark.TheVariants.{Branch}
+use Rattle.graph.specs.declared.mark.Mark.TheVariants.{Branch}
 use Rattle.node.specs.Rules.{is_find}
 use Rattle.graph.specs.Graph.{Graph, Edge, Weights}
 use Rattle.protocol.proofs.Awaits.{awaits, HeardFrom, Hears, awaits_basic, awaits_here, awaits_same, Waits, below_seeker, from_child, Seeks, waits_on}
@@ -82,7 +80,7 @@ woken_calm (WokeTo k c1) = ((λ u. grind arith), refl)
 
 -- of node i (A), at the other end y (B) of an edge: what Knows has beside the other invariants
 pub record Known (t : Graph) (i y : ℕ) (A B : View) : Type 0 where
-  pub long : A.held.best ≡ None → A.held.best_weight ≡ Nothing
+  pub long : A.held.best ≡ None → A.held.best_weight ≡ None
   pub inner : (k : ℕ) → A.own.changed ≡ false → A.held.level ≡ A.fragment.level → A.held.best ≡ Some k → A.held.parent ≡ Some k → ⊥
   pub best : A.own.changed ≡ false → A.held.level ≡ A.fragment.level → A.held.best ≡ Some y → Best i y (t.weight i y) A B
   pub asks : (A.held.testing ≡ None) ⊎ (A.held.status ≡ Find)
@@ -114,7 +112,7 @@ module _ (t : Graph) (weights : Weights t) where
     quiet_of i y l z f = unawaited i y l f (count_none (awaited n i) t.count y (sym (F.counts i f) ∙ z) l.1)
 
     -- who hears the last report waits for nobody else (the field late of Rest)
-    pub late_of : (i j y : ℕ) (r : Outgoing) (rest : List Message) → n.way j i ≡ Report r ∷ rest → ((n.held i).parent ≡ Some j → ⊥) → (n.held i).find_count - 1 ≡ 0 → (y ≡ j → ⊥) → Edge t i y → Quiet i y (view n γ i) (view n γ y) (control (n.way i y)) (control (n.way y i))
+    pub late_of : (i j y : ℕ) (r : Option ℕ) (rest : List Message) → n.way j i ≡ Report r ∷ rest → ((n.held i).parent ≡ Some j → ⊥) → (n.held i).find_count - 1 ≡ 0 → (y ≡ j → ⊥) → Edge t i y → Quiet i y (view n γ i) (view n γ y) (control (n.way i y)) (control (n.way y i))
     late_of i j y r rest e p z d l = unawaited i y l seeks (count_one (awaited n i) t.count j y (ap (λ (x : ℕ). x - 1) (sym (F.counts i seeks)) ∙ z) k.1 here l.1 d)
       where
         k : Edge t i j

@@ -1,7 +1,6 @@
 -- Halting, by what a node did and by every step of the net.
 use Rattle.std.proofs.Common.{◌≡◌, ℕ, suc, true, false, T, eqb, List, ◌++◌, Some, None, sym, refl, ◌∙◌, subst, inl, inr, arith}
 use Rattle.message.specs.declared.messages.Message.{Message}
-use Rattle.message.specs.declared.messages.Outgoing.TheVariants.{Nothing, Weight}
 use Rattle.node.specs.declared.state.Status.TheVariants.{Sleeping}
 use Rattle.node.specs.Rules.{lighter}
 use Rattle.graph.specs.Graph.{Graph, Edge, Weights}
@@ -21,9 +20,9 @@ use Rattle.protocol.proofs.Mode.{Mode}
 
 -- at first nobody has halted
 pub finished_start : Finished (view start first)
-finished_start = record { halts = λ x e. absurd (not_both refl e); asked = λ x e. refl; says = λ x e. absurd (undecided_not Nothing e) }
+finished_start = record { halts = λ x e. absurd (not_both refl e); asked = λ x e. refl; says = λ x e. absurd (undecided_not None e) }
 
-weight_some : (w : ℕ) → Weight w ≡ Nothing → ⊥
+weight_some : (w : ℕ) → Some w ≡ None → ⊥
 weight_some w e = grind arith
 
 module _ (t : Graph) (weights : Weights t) (V V' : ℕ → View) (P : ℕ → ℕ → List Message) (W : World t V P) (O : Outward t V) (F : Finished V) where
@@ -50,7 +49,7 @@ module _ (t : Graph) (weights : Weights t) (V V' : ℕ → View) (P : ℕ → �
   closed_got i j l kj e (Decides-joins {w = w} k c1 c2 c3 c4 c5) h R S = settles t weights V V' P W O F i j i k (head_turn kj.mine c1 c2 c3 e).least (lighter_some (V i).held.best_weight w c3) R h S
   closed_got i j l kj e (Halts {w = w} c1 c2 c3 c4) h R S = let n = head_ends kj.same kj.mine c1 c2 (subst (λ r. lighter r (V i).held.best_weight ≡ false) (sym c4) refl) e in
       elim n.least [
-        | inl un ↦ ends t weights V V' P W O F i j (all_asked t weights V V' P W O F i j (core_done t weights V P W i j Nothing l n un c1 (subst (λ b. lighter b Nothing ≡ false) (sym c3) refl) (subst (λ b. lighter b Nothing ≡ false) (sym c4) refl)) un) R h S
+        | inl un ↦ ends t weights V V' P W O F i j (all_asked t weights V V' P W O F i j (core_done t weights V P W i j None l n un c1 (subst (λ b. lighter b None ≡ false) (sym c3) refl) (subst (λ b. lighter b None ≡ false) (sym c4) refl)) un) R h S
         | inr y ↦ ends t weights V V' P W O F i j (λ x e. F.asked x ((λ k. (W.same x i e k).least) ∙ y.0)) R h S
       ]
   closed_got i j l kj e (Rests c1 c2 c3 c4) h R S = calms t weights V V' P W O F i j idle (λ k. refl) refl refl R h S
@@ -58,8 +57,8 @@ module _ (t : Graph) (weights : Weights t) (V V' : ℕ → View) (P : ℕ → �
   closed_got i j l kj e (Changed-joins k c1 c2) h R S = calms t weights V V' P W O F i j (change i k) (λ k. refl) refl refl R h S
 
   closed_woke : (i : ℕ) {g : Held} {os : List Send} → ((a : ℕ) → (a ≡ i → ⊥) → (V a).own.label ≡ (V i).own.label → ⊥) → (V i).own.in_search ≡ true → (V i).held.halted ≡ false → (d : Deed t i (V i).held woke g os) → (V' i).held.halted ≡ g.halted → ((a : ℕ) → (a ≡ i → ⊥) → (V' a).held.halted ≡ (V a).held.halted) → ((a : ℕ) → Steps (turn d) (V i) (V i) (V a) (V' a)) → Finished V'
-  closed_woke i alone s f (Alone c1) h R S = rises t weights V V' P W O F i i i i None Nothing alone s (inl (h, refl)) R S
-  closed_woke i alone s f (WokeTo k c1) h R S = rises t weights V V' P W O F i i i k (Some k) (Weight (t.weight i k)) alone s (inr (h ∙ f, weight_some (t.weight i k))) R S
+  closed_woke i alone s f (Alone c1) h R S = rises t weights V V' P W O F i i i i None None alone s (inl (h, refl)) R S
+  closed_woke i alone s f (WokeTo k c1) h R S = rises t weights V V' P W O F i i i k (Some k) (Some (t.weight i k)) alone s (inr (h ∙ f, weight_some (t.weight i k))) R S
 
 -- N0, as far as it is used: who sleeps is to be asked, and has not halted
 abbrev pub Dormant : Lifted → Ghost → Type 0

@@ -1,7 +1,5 @@
 -- What the proof carries beside the nodes: of each node to which fragment it really belongs, and of each fragment what it has come to.
 use Rattle.std.proofs.Common.{ℕ, suc, ◌+◌, Bool, true, false, cond, not, ◌&&◌, ◌||◌, eqb, List, Some, None, Option}
-use Rattle.message.specs.declared.messages.Outgoing.{Outgoing}
-use Rattle.message.specs.declared.messages.Outgoing.TheVariants.{Nothing, Weight}
 use Rattle.node.specs.Rules.{is_find}
 use Rattle.graph.specs.Graph.{Graph}
 use Rattle.protocol.proofs.Deed.{In, Deed, Alone, WokeTo, Absorbs, Merges, Begins, Searches-ask, Searches-report, Searches-wait, Accepts, Rejects, Crosses-ask, Crosses-report, Crosses-wait, Accepted-report, Accepted-wait, Rejected-ask, Rejected-report, Rejected-wait, Hears-report, Hears-wait, Decides-passes, Decides-joins, Halts, Rests, Changed-passes, Changed-joins}
@@ -11,7 +9,7 @@ use Rattle.protocol.proofs.Held.{Send, Held}
 -- what a fragment has come to: it still looks for the lightest edge that leads out of it, or has found it
 pub data Least : Type 0 where
   undecided : Least
-  decided : Outgoing → Least
+  decided : Option ℕ → Least
 
 pub record Own : Type 0 where
   pub label : ℕ
@@ -45,7 +43,7 @@ view n γ a = record { held = n.held a; own = γ.own a; fragment = γ.fragment (
 -- what a deed is to the ghost
 pub data Turn : Type 0 where
   idle : Turn
-  starts : (me best : ℕ) → (Option ℕ) → Outgoing → Turn
+  starts : (me best : ℕ) → (Option ℕ) → Option ℕ → Turn
   absorb : Turn
   merge : (long : ℕ) → Turn
   begin : (from : ℕ) → (core : Bool) → (reports : Bool) → Turn
@@ -55,8 +53,8 @@ pub data Turn : Type 0 where
   end : Turn
 
 abbrev pub turn : {t : Graph} {i : ℕ} {h g : Held} {inp : In} {os : List Send} → Deed t i h inp g os → Turn
-turn {t} {i} (Alone c1) = starts i i None Nothing
-turn {t} {i} (WokeTo k c1) = starts i k (Some k) (Weight (t.weight i k))
+turn {t} {i} (Alone c1) = starts i i None None
+turn {t} {i} (WokeTo k c1) = starts i k (Some k) (Some (t.weight i k))
 turn (Absorbs {j} {l} c1) = absorb
 turn {t} {i} (Merges {j} {l} c1 c2) = merge (t.weight i j)
 turn {t} {i} (Begins {j} {l} {f} {s} c1) = begin j (eqb (t.weight i j) f) false
@@ -139,7 +137,7 @@ fragments (begin j c r) A J = A.fragment
 fragments report A J = A.fragment
 fragments (decide me k) A J = record { level = A.fragment.level; name = A.fragment.name; least = decided A.held.best_weight; sends = me; gets = k }
 fragments (change me k) A J = record { level = A.fragment.level; name = A.fragment.name; least = A.fragment.least; sends = me; gets = k }
-fragments end A J = record { level = A.fragment.level; name = A.fragment.name; least = decided Nothing; sends = A.fragment.sends; gets = A.fragment.gets }
+fragments end A J = record { level = A.fragment.level; name = A.fragment.name; least = decided None; sends = A.fragment.sends; gets = A.fragment.gets }
 
 -- everybody else, and the node that acts too once its own changes are made
 abbrev pub moved : Turn → View → View → Own → Own

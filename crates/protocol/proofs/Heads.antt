@@ -1,12 +1,10 @@
 -- What the message at the head says of both ends.
-use Rattle.std.proofs.Common.{◌≡◌, ℕ, ◌<◌, ◌≤◌, true, false, ◌⊎◌, List, [], ◌∷◌, Some, inl, inr, arith}
+use Rattle.std.proofs.Common.{◌≡◌, ℕ, ◌<◌, ◌≤◌, true, false, ◌⊎◌, List, [], ◌∷◌, Some, inl, inr, arith, None, Option}
 use Rattle.message.specs.declared.messages.Message.{Message}
 use Rattle.message.specs.declared.messages.Message.TheVariants.{Connect, Initiate, Report, Change}
-use Rattle.message.specs.declared.messages.Outgoing.{Outgoing}
-use Rattle.message.specs.declared.messages.Outgoing.TheVariants.{Nothing, Weight}
 use Rattle.message.specs.declared.messages.Phase.{Phase}
 use Rattle.node.specs.declared.state.Status.TheVariants.{Find}
-use Rattle.node.specs.declared.state.Mark.TheVariants.{Basic, Branch}
+use Rattle.graph.specs.declared.mark.Mark.TheVariants.{Basic, Branch}
 use Rattle.node.specs.Rules.{is_finding, lighter}
 use Rattle.protocol.proofs.Chain.{bool, chain_low}
 use Rattle.protocol.proofs.Ghost.{undecided, decided, View}
@@ -18,7 +16,7 @@ pub record Absorbing (i j z : ℕ) (A B : View) : Type 0 where
   pub gets : B.fragment.gets ≡ i
   pub low : B.held.level < A.held.level
   pub current : B.held.level ≡ B.fragment.level
-  pub least : B.fragment.least ≡ decided (Weight z)
+  pub least : B.fragment.least ≡ decided (Some z)
   pub differ : A.own.label ≡ B.own.label → ⊥
 
 pub head_absorb : {x y w : ℕ} {A B : View} {p q : List Message} {l : ℕ} → l < A.held.level → Mode x y w A B p (Connect l ∷ q) → Absorbing x y w A B
@@ -43,10 +41,10 @@ pub record Merging (i j z : ℕ) (A B : View) : Type 0 where
   pub sends_a : A.fragment.sends ≡ i
   pub gets_a : A.fragment.gets ≡ j
   pub current_a : A.held.level ≡ A.fragment.level
-  pub least_a : A.fragment.least ≡ decided (Weight z)
+  pub least_a : A.fragment.least ≡ decided (Some z)
   pub levels : B.held.level ≡ A.held.level
   pub current : B.held.level ≡ B.fragment.level
-  pub least : B.fragment.least ≡ decided (Weight z)
+  pub least : B.fragment.least ≡ decided (Some z)
   pub differ : A.own.label ≡ B.own.label → ⊥
 
 pub head_merge : {x y w : ℕ} {A B : View} {p q : List Message} {l : ℕ} → A.held.level ≤ l → (A.held.mark y ≡ Basic → ⊥) → Mode x y w A B p (Connect l ∷ q) → Merging x y w A B ⊎ (A.own.label ≡ B.own.label)
@@ -107,7 +105,7 @@ pub record Deciding (j z : ℕ) (A : View) : Type 0 where
   pub least : A.fragment.least ≡ undecided
   pub name : A.fragment.name ≡ z
 
-pub head_turn : {x y w : ℕ} {A B : View} {p q : List Message} {r : Outgoing} → Sane y A → A.held.parent ≡ Some y → (A.held.status ≡ Find → ⊥) → lighter A.held.best_weight r ≡ true → Mode x y w A B p (Report r ∷ q) → Deciding y w A
+pub head_turn : {x y w : ℕ} {A B : View} {p q : List Message} {r : Option ℕ} → Sane y A → A.held.parent ≡ Some y → (A.held.status ≡ Find → ⊥) → lighter A.held.best_weight r ≡ true → Mode x y w A B p (Report r ∷ q) → Deciding y w A
 head_turn n a b c (free v) = absurd (grind arith)
 head_turn n a b c (offered v) = absurd (grind arith)
 head_turn n a b c (offers v) = absurd (grind arith)
@@ -125,10 +123,10 @@ head_turn n a b c (below v) = absurd (grind arith)
 
 pub record Ending (z : ℕ) (A : View) : Type 0 where
   pub current : A.held.level ≡ A.fragment.level
-  pub least : (A.fragment.least ≡ undecided) ⊎ (A.fragment.least ≡ decided Nothing)
+  pub least : (A.fragment.least ≡ undecided) ⊎ (A.fragment.least ≡ decided None)
   pub name : A.fragment.name ≡ z
 
-pub head_end : {x y w : ℕ} {A B : View} {p q : List Message} {r : Outgoing} → Sane y A → A.held.parent ≡ Some y → (A.held.status ≡ Find → ⊥) → A.held.best_weight ≡ Nothing → r ≡ Nothing → Mode x y w A B p (Report r ∷ q) → Ending w A
+pub head_end : {x y w : ℕ} {A B : View} {p q : List Message} {r : Option ℕ} → Sane y A → A.held.parent ≡ Some y → (A.held.status ≡ Find → ⊥) → A.held.best_weight ≡ None → r ≡ None → Mode x y w A B p (Report r ∷ q) → Ending w A
 head_end n a b c d (free v) = absurd (grind arith)
 head_end n a b c d (offered v) = absurd (grind arith)
 head_end n a b c d (offers v) = absurd (grind arith)
@@ -153,7 +151,7 @@ pub record Changing (i j : ℕ) (A : View) : Type 0 where
   pub still : A.own.changed ≡ false
   pub current : A.held.level ≡ A.fragment.level
   pub least : A.fragment.least ≡ decided A.held.best_weight
-  pub finite : A.held.best_weight ≡ Nothing → ⊥
+  pub finite : A.held.best_weight ≡ None → ⊥
 
 pub head_change : {x y w : ℕ} {A B : View} {p q : List Message} → (A.own.label ≡ B.own.label → A.fragment ≡ B.fragment) → Mode x y w A B p (Change ∷ q) → Changing x y A
 head_change same (free v) = absurd (grind arith)
@@ -171,7 +169,7 @@ head_change same (told v) = grind arith
 head_change same (above v) = absurd (grind arith)
 head_change same (below v) = absurd (grind arith)
 
-pub head_hears : {x y w : ℕ} {A B : View} {p q : List Message} {r : Outgoing} → (A.held.parent ≡ Some y → ⊥) → Mode x y w A B p (Report r ∷ q) → A.held.status ≡ Find
+pub head_hears : {x y w : ℕ} {A B : View} {p q : List Message} {r : Option ℕ} → (A.held.parent ≡ Some y → ⊥) → Mode x y w A B p (Report r ∷ q) → A.held.status ≡ Find
 head_hears a (free v) = absurd (grind arith)
 head_hears a (offered v) = absurd (grind arith)
 head_hears a (offers v) = absurd (grind arith)
@@ -204,7 +202,7 @@ alone_connect a (told v) = absurd (grind arith)
 alone_connect a (above v) = absurd (grind arith)
 alone_connect a (below v) = absurd (grind arith)
 
-pub alone_report : {x y w : ℕ} {A B : View} {p q : List Message} {r : Outgoing} → A.held.parent ≡ Some y → A.held.status ≡ Find → Mode x y w A B p (Report r ∷ q) → q ≡ []
+pub alone_report : {x y w : ℕ} {A B : View} {p q : List Message} {r : Option ℕ} → A.held.parent ≡ Some y → A.held.status ≡ Find → Mode x y w A B p (Report r ∷ q) → q ≡ []
 alone_report a b (free v) = absurd (grind arith)
 alone_report a b (offered v) = absurd (grind arith)
 alone_report a b (offers v) = absurd (grind arith)

@@ -1,13 +1,11 @@
 -- What a node holds, by the numbers of its neighbours: the node as the proof looks at it.
 use Rattle.std.proofs.Common.{ℕ, zero, suc, ◌+◌, ◌-◌, Bool, true, false, cond, not, ◌&&◌, eqb, List, [], ◌∷◌, ◌++◌, Some, None, Option}
 use Rattle.message.specs.declared.messages.Message.{Message}
-use Rattle.message.specs.declared.messages.Outgoing.{Outgoing}
-use Rattle.message.specs.declared.messages.Outgoing.TheVariants.{Nothing}
 use Rattle.message.specs.declared.messages.Phase.{Phase}
 use Rattle.node.specs.declared.state.Status.{Status}
 use Rattle.node.specs.declared.state.Status.TheVariants.{Sleeping, Found}
-use Rattle.node.specs.declared.state.Mark.{Mark}
-use Rattle.node.specs.declared.state.Mark.TheVariants.{Basic, Rejected}
+use Rattle.graph.specs.declared.mark.Mark.{Mark}
+use Rattle.graph.specs.declared.mark.Mark.TheVariants.{Basic, Rejected}
 use Rattle.node.specs.Rules.{is_basic, is_branch, status_of, is_finding, lighter}
 use Rattle.graph.specs.Graph.{Graph}
 
@@ -25,13 +23,13 @@ pub record Held : Type 0 where
   pub find_count : ℕ
   pub parent : Option ℕ
   pub best : Option ℕ
-  pub best_weight : Outgoing
+  pub best_weight : Option ℕ
   pub testing : Option ℕ
   pub halted : Bool
 
 -- a node that sleeps, as it is made
 abbrev pub bare : Held
-bare = record { status = Sleeping; mark = λ j. Basic; level = 0; name = 0; find_count = 0; parent = None; best = None; best_weight = Nothing; testing = None; halted = false }
+bare = record { status = Sleeping; mark = λ j. Basic; level = 0; name = 0; find_count = 0; parent = None; best = None; best_weight = None; testing = None; halted = false }
 
 abbrev pub is_none : Option ℕ → Bool
 is_none None = true
@@ -71,7 +69,7 @@ abbrev pub halting : Held → Held
 halting h =
     record { status = h.status; mark = h.mark; level = h.level; name = h.name; find_count = h.find_count; parent = h.parent; best = h.best; best_weight = h.best_weight; testing = h.testing; halted = true }
 
-abbrev pub bettering : ℕ → Outgoing → Held → Held
+abbrev pub bettering : ℕ → Option ℕ → Held → Held
 bettering j w h =
     record { status = h.status; mark = h.mark; level = h.level; name = h.name; find_count = h.find_count; parent = h.parent; best = cond (lighter w h.best_weight) (Some j) h.best; best_weight = cond (lighter w h.best_weight) w h.best_weight; testing = h.testing; halted = h.halted }
 
@@ -82,7 +80,7 @@ branches_but h j (suc n) = cond (is_branch (h.mark n) && not (eqb n j)) 1 0 + br
 
 abbrev pub joining : Graph → ℕ → ℕ → ℕ → Phase → Held → Held
 joining t j l f s h =
-    record { status = status_of s; mark = h.mark; level = l; name = f; find_count = h.find_count + cond (is_finding s) (branches_but h j t.count) 0; parent = Some j; best = None; best_weight = Nothing; testing = h.testing; halted = h.halted }
+    record { status = status_of s; mark = h.mark; level = l; name = f; find_count = h.find_count + cond (is_finding s) (branches_but h j t.count) 0; parent = Some j; best = None; best_weight = None; testing = h.testing; halted = h.halted }
 
 -- what goes on over the branches to neighbours below n, but not to j
 unfoldable pub onward : Held → ℕ → Message → ℕ → List Send

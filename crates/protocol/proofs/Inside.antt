@@ -1,7 +1,7 @@
 -- The nodes of a fragment are joined by branches inside it.
 use Rattle.std.proofs.Common.{◌≡◌, ℕ, ◌<◌, cond, eqb, ◌⊎◌, sym, refl, ap, ◌∙◌, subst, inl, inr, arith}
 use Rattle.std.proofs.lemmas.Bool.Decides.{eqb_tells}
-use Rattle.node.specs.declared.state.Mark.TheVariants.{Branch}
+use Rattle.graph.specs.declared.mark.Mark.TheVariants.{Branch}
 use Rattle.graph.specs.Graph.{Graph, Edge, Weights}
 use Rattle.protocol.proofs.Base.{Good}
 use Rattle.protocol.proofs.Coarser.{Coarser, keeps, joins, coarsens}

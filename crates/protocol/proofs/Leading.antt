@@ -2,10 +2,8 @@
 use Rattle.std.proofs.Common.{◌≡◌, ℕ, ◌≤◌, Bool, true, false, cond, eqb, List, ◌∷◌, ◌++◌, Some, None, Option, sym, refl, ◌∙◌, inl, inr, arith}
 use Rattle.message.specs.declared.messages.Message.{Message}
 use Rattle.message.specs.declared.messages.Message.TheVariants.{Connect, Report, Change}
-use Rattle.message.specs.declared.messages.Outgoing.{Outgoing}
-use Rattle.message.specs.declared.messages.Outgoing.TheVariants.{Nothing, Weight}
 use Rattle.node.specs.declared.state.Status.TheVariants.{Sleeping, Find}
-use Rattle.node.specs.declared.state.Mark.TheVariants.{Basic, Branch}
+use Rattle.graph.specs.declared.mark.Mark.TheVariants.{Basic, Branch}
 use Rattle.node.specs.Rules.{is_find, lighter}
 use Rattle.graph.specs.Graph.{Graph}
 use Rattle.protocol.proofs.Chain.{bool, down_low}
@@ -40,7 +38,7 @@ head_joins c d (above v) = absurd (grind arith)
 head_joins c d (below v) = absurd (grind arith)
 
 -- a report that decides comes from the other end of the core
-head_core : {x y w : ℕ} {A B : View} {p q : List Message} {r : Outgoing} → A.held.parent ≡ Some y → lighter A.held.best_weight r ≡ true → Mode x y w A B p (Report r ∷ q) → Sane y A → (A.held.status ≡ Find → ⊥) → B.held.parent ≡ Some x
+head_core : {x y w : ℕ} {A B : View} {p q : List Message} {r : Option ℕ} → A.held.parent ≡ Some y → lighter A.held.best_weight r ≡ true → Mode x y w A B p (Report r ∷ q) → Sane y A → (A.held.status ≡ Find → ⊥) → B.held.parent ≡ Some x
 head_core a c (free v) n b = absurd (grind arith)
 head_core a c (offered v) n b = absurd (grind arith)
 head_core a c (offers v) n b = absurd (grind arith)
@@ -78,7 +76,7 @@ abbrev Under : ℕ → View → View → Type 0
 Under x A B = (B.held.parent ≡ Some x) × (B.own.reported ≡ true) × (B.own.changed ≡ false) × (B.held.level ≡ A.held.level) × (B.held.name ≡ A.held.name) × (B.held.best_weight ≡ A.held.best_weight)
 
 -- a report from below tells of the best edge of one that has reported
-record Heard (x y : ℕ) (A B : View) (r : Outgoing) : Type 0 where
+record Heard (x y : ℕ) (A B : View) (r : Option ℕ) : Type 0 where
   pub mark : A.held.mark y ≡ Branch
   pub weight : r ≡ B.held.best_weight
   pub parent : B.held.parent ≡ Some x
@@ -87,7 +85,7 @@ record Heard (x y : ℕ) (A B : View) (r : Outgoing) : Type 0 where
   pub level : B.held.level ≡ A.held.level
   pub name : B.held.name ≡ A.held.name
 
-head_heard : {x y w : ℕ} {A B : View} {p q : List Message} {r : Outgoing} → (A.held.parent ≡ Some y → ⊥) → Sane y A → Sane x B → (A.own.label ≡ B.own.label → A.fragment ≡ B.fragment) → Mode x y w A B p (Report r ∷ q) → Heard x y A B r
+head_heard : {x y w : ℕ} {A B : View} {p q : List Message} {r : Option ℕ} → (A.held.parent ≡ Some y → ⊥) → Sane y A → Sane x B → (A.own.label ≡ B.own.label → A.fragment ≡ B.fragment) → Mode x y w A B p (Report r ∷ q) → Heard x y A B r
 head_heard {x} {y} {w} {A} {B} {p} {q} a sa sb same (free v) = absurd (grind arith)
 head_heard {x} {y} {w} {A} {B} {p} {q} a sa sb same (offered v) = absurd (grind arith)
 head_heard {x} {y} {w} {A} {B} {p} {q} a sa sb same (offers v) = absurd (grind arith)
@@ -152,8 +150,8 @@ leads_over {t} {i} {y} {A} {B} {p = p} {q} kj ft an e (Rejects {l} {f} c1 c2 c3)
 leads_over {t} {i} {y} {A} {B} {p = p} {q} kj ft an e (Crosses-ask {l} {f} k c1 c2 c3 c4) v = λ c u b. let cu : A.held.level ≡ A.fragment.level = grind arith in let o = v c cu b in let z = inside_branch o (ft c2) in record { mark = grind arith; parent = λ h. grind arith; out = λ h. grind arith; on = λ h. grind arith }
 leads_over {t} {i} {y} {A} {B} {p = p} {q} kj ft an e (Crosses-report {l} {f} c1 c2 c3 c4 c5 c6) v = λ c u b. let cu : A.held.level ≡ A.fragment.level = grind arith in let o = v c cu b in let z = inside_branch o (ft c2) in record { mark = grind arith; parent = λ h. grind arith; out = λ h. grind arith; on = λ h. grind arith }
 leads_over {t} {i} {y} {A} {B} {p = p} {q} kj ft an e (Crosses-wait {l} {f} c1 c2 c3 c4 c5) v = λ c u b. let cu : A.held.level ≡ A.fragment.level = grind arith in let o = v c cu b in let z = inside_branch o (ft c2) in record { mark = grind arith; parent = λ h. grind arith; out = λ h. grind arith; on = λ h. grind arith }
-leads_over {t} {i} {y} {A} {B} {p = p} {q} kj ft an e (Accepted-report c1 c2) v = elim (bool (lighter (Weight (t.weight i y)) A.held.best_weight)) [ inl s ↦ (λ c u b. record { mark = inl an.1; parent = λ h. absurd (let z = kj.mine.parent_branch h in let k = an.1 in grind arith); out = λ h. (grind arith, (λ k. an.2 (grind arith)), an.3); on = λ h. absurd (let k = an.1 in grind arith) }) | inr s ↦ (λ c u b. let cu : A.held.level ≡ A.fragment.level = grind arith in let o = v c cu (grind arith) in record { mark = grind arith; parent = λ h. grind arith; out = λ h. grind arith; on = λ h. grind arith }) ]
-leads_over {t} {i} {y} {A} {B} {p = p} {q} kj ft an e (Accepted-wait c1) v = elim (bool (lighter (Weight (t.weight i y)) A.held.best_weight)) [ inl s ↦ (λ c u b. record { mark = inl an.1; parent = λ h. absurd (let z = kj.mine.parent_branch h in let k = an.1 in grind arith); out = λ h. (grind arith, (λ k. an.2 (grind arith)), an.3); on = λ h. absurd (let k = an.1 in grind arith) }) | inr s ↦ (λ c u b. let cu : A.held.level ≡ A.fragment.level = grind arith in let o = v c cu (grind arith) in record { mark = grind arith; parent = λ h. grind arith; out = λ h. grind arith; on = λ h. grind arith }) ]
+leads_over {t} {i} {y} {A} {B} {p = p} {q} kj ft an e (Accepted-report c1 c2) v = elim (bool (lighter (Some (t.weight i y)) A.held.best_weight)) [ inl s ↦ (λ c u b. record { mark = inl an.1; parent = λ h. absurd (let z = kj.mine.parent_branch h in let k = an.1 in grind arith); out = λ h. (grind arith, (λ k. an.2 (grind arith)), an.3); on = λ h. absurd (let k = an.1 in grind arith) }) | inr s ↦ (λ c u b. let cu : A.held.level ≡ A.fragment.level = grind arith in let o = v c cu (grind arith) in record { mark = grind arith; parent = λ h. grind arith; out = λ h. grind arith; on = λ h. grind arith }) ]
+leads_over {t} {i} {y} {A} {B} {p = p} {q} kj ft an e (Accepted-wait c1) v = elim (bool (lighter (Some (t.weight i y)) A.held.best_weight)) [ inl s ↦ (λ c u b. record { mark = inl an.1; parent = λ h. absurd (let z = kj.mine.parent_branch h in let k = an.1 in grind arith); out = λ h. (grind arith, (λ k. an.2 (grind arith)), an.3); on = λ h. absurd (let k = an.1 in grind arith) }) | inr s ↦ (λ c u b. let cu : A.held.level ≡ A.fragment.level = grind arith in let o = v c cu (grind arith) in record { mark = grind arith; parent = λ h. grind arith; out = λ h. grind arith; on = λ h. grind arith }) ]
 leads_over {t} {i} {y} {A} {B} {p = p} {q} kj ft an e (Rejected-ask k c1) v = λ c u b. let cu : A.held.level ≡ A.fragment.level = grind arith in let o = v c cu b in let z = inside_branch o ft.1 in record { mark = grind arith; parent = λ h. grind arith; out = λ h. grind arith; on = λ h. grind arith }
 leads_over {t} {i} {y} {A} {B} {p = p} {q} kj ft an e (Rejected-report c1 c2 c3) v = λ c u b. let cu : A.held.level ≡ A.fragment.level = grind arith in let o = v c cu b in let z = inside_branch o ft.1 in record { mark = grind arith; parent = λ h. grind arith; out = λ h. grind arith; on = λ h. grind arith }
 leads_over {t} {i} {y} {A} {B} {p = p} {q} kj ft an e (Rejected-wait c1 c2) v = λ c u b. let cu : A.held.level ≡ A.fragment.level = grind arith in let o = v c cu b in let z = inside_branch o ft.1 in record { mark = grind arith; parent = λ h. grind arith; out = λ h. grind arith; on = λ h. grind arith }
@@ -166,7 +164,7 @@ leads_over {t} {i} {y} {A} {B} {p = p} {q} kj ft an e (Rests {w} c1 c2 c3 c4) v 
 leads_over {t} {i} {y} {A} {B} {p = p} {q} kj ft an e (Changed-passes k c1 c2) v = λ c u b. absurd (grind arith)
 leads_over {t} {i} {y} {A} {B} {p = p} {q} kj ft an e (Changed-joins k c1 c2) v = λ c u b. absurd (grind arith)
 
-better_else : (j y : ℕ) (w z : Outgoing) (b : Option ℕ) → (y ≡ j → ⊥) → cond (lighter w z) (Some j) b ≡ Some y → (b ≡ Some y) × (cond (lighter w z) w z ≡ z)
+better_else : (j y : ℕ) (w z : Option ℕ) (b : Option ℕ) → (y ≡ j → ⊥) → cond (lighter w z) (Some j) b ≡ Some y → (b ≡ Some y) × (cond (lighter w z) w z ≡ z)
 better_else j y w z b d e = go (lighter w z) e
   where
     go : (s : Bool) → cond s (Some j) b ≡ Some y → (b ≡ Some y) × (cond s w z ≡ z)
@@ -186,8 +184,8 @@ leads_beside {t} {i} {j} {y} {A = A} {B} {J} kj ne lab sa sb e (Rejects {l} {f} 
 leads_beside {t} {i} {j} {y} {A = A} {B} {J} kj ne lab sa sb e (Crosses-ask {l} {f} k c1 c2 c3 c4) v = leads_as (acted idle (testing_now (Some k) (rejecting j A.held)) A J) (leads_far {u = idle} A J lab sa sb (calm refl (λ z. refl)) v) (λ c. c) (λ b. (b, refl)) (grind arith) refl refl refl refl refl
 leads_beside {t} {i} {j} {y} {A = A} {B} {J} kj ne lab sa sb e (Crosses-report {l} {f} c1 c2 c3 c4 c5 c6) v = leads_as (acted report (finding (testing_now None (rejecting j A.held))) A J) (leads_far {u = report} A J lab sa sb (calm refl (λ z. refl)) v) (λ c. c) (λ b. (b, refl)) (grind arith) refl refl refl refl refl
 leads_beside {t} {i} {j} {y} {A = A} {B} {J} kj ne lab sa sb e (Crosses-wait {l} {f} c1 c2 c3 c4 c5) v = leads_as (acted idle (testing_now None (rejecting j A.held)) A J) (leads_far {u = idle} A J lab sa sb (calm refl (λ z. refl)) v) (λ c. c) (λ b. (b, refl)) (grind arith) refl refl refl refl refl
-leads_beside {t} {i} {j} {y} {A = A} {B} {J} kj ne lab sa sb e (Accepted-report c1 c2) v = leads_as (acted report (finding (bettering j (Weight (t.weight i j)) (testing_now None A.held))) A J) (leads_far {u = report} A J lab sa sb (calm refl (λ z. refl)) v) (λ c. c) (λ b. better_else j y (Weight (t.weight i j)) A.held.best_weight A.held.best ne b) refl refl refl refl refl refl
-leads_beside {t} {i} {j} {y} {A = A} {B} {J} kj ne lab sa sb e (Accepted-wait c1) v = leads_as (acted idle (bettering j (Weight (t.weight i j)) (testing_now None A.held)) A J) (leads_far {u = idle} A J lab sa sb (calm refl (λ z. refl)) v) (λ c. c) (λ b. better_else j y (Weight (t.weight i j)) A.held.best_weight A.held.best ne b) refl refl refl refl refl refl
+leads_beside {t} {i} {j} {y} {A = A} {B} {J} kj ne lab sa sb e (Accepted-report c1 c2) v = leads_as (acted report (finding (bettering j (Some (t.weight i j)) (testing_now None A.held))) A J) (leads_far {u = report} A J lab sa sb (calm refl (λ z. refl)) v) (λ c. c) (λ b. better_else j y (Some (t.weight i j)) A.held.best_weight A.held.best ne b) refl refl refl refl refl refl
+leads_beside {t} {i} {j} {y} {A = A} {B} {J} kj ne lab sa sb e (Accepted-wait c1) v = leads_as (acted idle (bettering j (Some (t.weight i j)) (testing_now None A.held)) A J) (leads_far {u = idle} A J lab sa sb (calm refl (λ z. refl)) v) (λ c. c) (λ b. better_else j y (Some (t.weight i j)) A.held.best_weight A.held.best ne b) refl refl refl refl refl refl
 leads_beside {t} {i} {j} {y} {A = A} {B} {J} kj ne lab sa sb e (Rejected-ask k c1) v = leads_as (acted idle (testing_now (Some k) (rejecting j A.held)) A J) (leads_far {u = idle} A J lab sa sb (calm refl (λ z. refl)) v) (λ c. c) (λ b. (b, refl)) (grind arith) refl refl refl refl refl
 leads_beside {t} {i} {j} {y} {A = A} {B} {J} kj ne lab sa sb e (Rejected-report c1 c2 c3) v = leads_as (acted report (finding (testing_now None (rejecting j A.held))) A J) (leads_far {u = report} A J lab sa sb (calm refl (λ z. refl)) v) (λ c. c) (λ b. (b, refl)) (grind arith) refl refl refl refl refl
 leads_beside {t} {i} {j} {y} {A = A} {B} {J} kj ne lab sa sb e (Rejected-wait c1 c2) v = leads_as (acted idle (testing_now None (rejecting j A.held)) A J) (leads_far {u = idle} A J lab sa sb (calm refl (λ z. refl)) v) (λ c. c) (λ b. (b, refl)) (grind arith) refl refl refl refl refl
@@ -213,8 +211,8 @@ leads_partner {t} {i} {j} {x} {A = A} {C} {J} kj ft jx lab sa sc ex e (Rejects {
 leads_partner {t} {i} {j} {x} {A = A} {C} {J} kj ft jx lab sa sc ex e (Crosses-ask {l} {f} k c1 c2 c3 c4) v = leads_to (acted idle (testing_now (Some k) (rejecting j C.held)) C J) (leads_far {u = idle} C J lab sa sc (calm refl (λ z. refl)) v) (omega arith) refl (λ c u n k h. h)
 leads_partner {t} {i} {j} {x} {A = A} {C} {J} kj ft jx lab sa sc ex e (Crosses-report {l} {f} c1 c2 c3 c4 c5 c6) v = leads_to (acted report (finding (testing_now None (rejecting j C.held))) C J) (leads_far {u = report} C J lab sa sc (calm refl (λ z. refl)) v) (omega arith) refl (λ c u n k h. (h.0, refl, h.2, h.3, h.4, h.5))
 leads_partner {t} {i} {j} {x} {A = A} {C} {J} kj ft jx lab sa sc ex e (Crosses-wait {l} {f} c1 c2 c3 c4 c5) v = leads_to (acted idle (testing_now None (rejecting j C.held)) C J) (leads_far {u = idle} C J lab sa sc (calm refl (λ z. refl)) v) (omega arith) refl (λ c u n k h. h)
-leads_partner {t} {i} {j} {x} {A = A} {C} {J} kj ft jx lab sa sc ex e (Accepted-report c1 c2) v = leads_to (acted report (finding (bettering j (Weight (t.weight i j)) (testing_now None C.held))) C J) (leads_far {u = report} C J lab sa sc (calm refl (λ z. refl)) v) (omega arith) refl (λ c u n k h. absurd (let r = sc.find_reported ft in grind arith))
-leads_partner {t} {i} {j} {x} {A = A} {C} {J} kj ft jx lab sa sc ex e (Accepted-wait c1) v = leads_to (acted idle (bettering j (Weight (t.weight i j)) (testing_now None C.held)) C J) (leads_far {u = idle} C J lab sa sc (calm refl (λ z. refl)) v) (omega arith) refl (λ c u n k h. absurd (let r = sc.find_reported ft in grind arith))
+leads_partner {t} {i} {j} {x} {A = A} {C} {J} kj ft jx lab sa sc ex e (Accepted-report c1 c2) v = leads_to (acted report (finding (bettering j (Some (t.weight i j)) (testing_now None C.held))) C J) (leads_far {u = report} C J lab sa sc (calm refl (λ z. refl)) v) (omega arith) refl (λ c u n k h. absurd (let r = sc.find_reported ft in grind arith))
+leads_partner {t} {i} {j} {x} {A = A} {C} {J} kj ft jx lab sa sc ex e (Accepted-wait c1) v = leads_to (acted idle (bettering j (Some (t.weight i j)) (testing_now None C.held)) C J) (leads_far {u = idle} C J lab sa sc (calm refl (λ z. refl)) v) (omega arith) refl (λ c u n k h. absurd (let r = sc.find_reported ft in grind arith))
 leads_partner {t} {i} {j} {x} {A = A} {C} {J} kj ft jx lab sa sc ex e (Rejected-ask k c1) v = leads_to (acted idle (testing_now (Some k) (rejecting j C.held)) C J) (leads_far {u = idle} C J lab sa sc (calm refl (λ z. refl)) v) (omega arith) refl (λ c u n k h. h)
 leads_partner {t} {i} {j} {x} {A = A} {C} {J} kj ft jx lab sa sc ex e (Rejected-report c1 c2 c3) v = leads_to (acted report (finding (testing_now None (rejecting j C.held))) C J) (leads_far {u = report} C J lab sa sc (calm refl (λ z. refl)) v) (omega arith) refl (λ c u n k h. (h.0, refl, h.2, h.3, h.4, h.5))
 leads_partner {t} {i} {j} {x} {A = A} {C} {J} kj ft jx lab sa sc ex e (Rejected-wait c1 c2) v = leads_to (acted idle (testing_now None (rejecting j C.held)) C J) (leads_far {u = idle} C J lab sa sc (calm refl (λ z. refl)) v) (omega arith) refl (λ c u n k h. h)
@@ -233,5 +231,5 @@ leads_wake A B J (Alone c1) = λ c u b. absurd (grind arith)
 leads_wake A B J (WokeTo k c1) = λ c u b. absurd (grind arith)
 
 pub leads_woken : {t : Graph} {i x w : ℕ} {A C : View} (J : View) {g : Held} {os : List Send} → C.held.status ≡ Sleeping → C.held.level ≡ 0 → Labels A C C J → Sane i A → Sane x C → (d : Deed t i C.held woke g os) → Leads x i w A C → Leads x i w (follow (turn d) C J A) (acted (turn d) g C J)
-leads_woken {t} {i} {A = A} {C} J s l lab sa sc (Alone c1) v = leads_to (acted (starts i i None Nothing) (woken_held true C.held.mark C.held) C J) (leads_far {u = starts i i None Nothing} C J lab sa sc (calm refl (λ z. refl)) v) (grind arith) refl (λ c u n k h. absurd (let r = sc.sleeping_reported s in grind arith))
-leads_woken {t} {i} {A = A} {C} J s l lab sa sc (WokeTo k c1) v = leads_to (acted (starts i k (Some k) (Weight (t.weight i k))) (woken_held C.held.halted (put k Branch C.held.mark) C.held) C J) (leads_far {u = starts i k (Some k) (Weight (t.weight i k))} C J lab sa sc (calm refl (λ z. refl)) v) (grind arith) refl (λ c u n k' h. absurd (let r = sc.sleeping_reported s in grind arith))
+leads_woken {t} {i} {A = A} {C} J s l lab sa sc (Alone c1) v = leads_to (acted (starts i i None None) (woken_held true C.held.mark C.held) C J) (leads_far {u = starts i i None None} C J lab sa sc (calm refl (λ z. refl)) v) (grind arith) refl (λ c u n k h. absurd (let r = sc.sleeping_reported s in grind arith))
+leads_woken {t} {i} {A = A} {C} J s l lab sa sc (WokeTo k c1) v = leads_to (acted (starts i k (Some k) (Some (t.weight i k))) (woken_held C.held.halted (put k Branch C.held.mark) C.held) C J) (leads_far {u = starts i k (Some k) (Some (t.weight i k))} C J lab sa sc (calm refl (λ z. refl)) v) (grind arith) refl (λ c u n k' h. absurd (let r = sc.sleeping_reported s in grind arith))

@@ -1,7 +1,7 @@
 -- A best edge that leads out goes on to lead out.
 use Rattle.std.proofs.Common.{◌≡◌, ℕ, ◌<◌, ◌≤◌, false, eqb, Some, inl, inr, arith}
 use Rattle.std.proofs.lemmas.Bool.Decides.{eqb_tells}
-use Rattle.node.specs.declared.state.Mark.TheVariants.{Basic}
+use Rattle.graph.specs.declared.mark.Mark.TheVariants.{Basic}
 use Rattle.protocol.proofs.Else.{Labels}
 use Rattle.protocol.proofs.Ghost.{View, absorb, merge, follow}
 use Rattle.protocol.proofs.Mode.{Sane}

@@ -1,11 +1,9 @@
 -- Each step keeps what a fragment knows of the edges that lead out of it.
-use Rattle.std.proofs.Common.{◌≡◌, ℕ, ◌<◌, ◌≤◌, Bool, true, false, cond, not, ◌&&◌, ◌||◌, eqb, ◌⊎◌, List, None, Option, sym, refl, ap, ◌∙◌, subst, inl, inr, arith}
+use Rattle.std.proofs.Common.{◌≡◌, ℕ, ◌<◌, ◌≤◌, Bool, true, false, cond, not, ◌&&◌, ◌||◌, eqb, ◌⊎◌, List, None, Option, sym, refl, ap, ◌∙◌, subst, inl, inr, arith, Some}
 use Rattle.std.proofs.lemmas.Bool.Decides.{eqb_tells}
 use Rattle.message.specs.declared.messages.Message.{Message}
-use Rattle.message.specs.declared.messages.Outgoing.{Outgoing}
-use Rattle.message.specs.declared.messages.Outgoing.TheVariants.{Nothing, Weight}
 use Rattle.node.specs.declared.state.Status.TheVariants.{Find}
-use Rattle.node.specs.declared.state.Mark.TheVariants.{Basic}
+use Rattle.graph.specs.declared.mark.Mark.TheVariants.{Basic}
 use Rattle.node.specs.Rules.{lighter}
 use Rattle.graph.specs.Graph.{Graph, Edge}
 use Rattle.protocol.proofs.All.{Done, lighter_trans}
@@ -26,11 +24,11 @@ label_so l k m e o = grind arith
 pub other_one : (l c k : ℕ) → (eqb l c || eqb l k) ≡ true → (l ≡ k → ⊥) → l ≡ c
 other_one l c k o d = grind arith
 
-pub some : (z : ℕ) → lighter (Weight z) Nothing ≡ false → ⊥
+pub some : (z : ℕ) → lighter (Some z) None ≡ false → ⊥
 some z e = grind arith
 
 -- into a fragment that has decided nobody is taken who would be asked
-none_enters : (C : View) (v : Outgoing) → (C.own.in_search ≡ true → (C.held.level ≡ C.fragment.level) × (C.own.reported ≡ true)) → (C.held.status ≡ Find → C.fragment.least ≡ undecided) → C.fragment.least ≡ decided v → enters absorb C ≡ true → ⊥
+none_enters : (C : View) (v : Option ℕ) → (C.own.in_search ≡ true → (C.held.level ≡ C.fragment.level) × (C.own.reported ≡ true)) → (C.held.status ≡ Find → C.fragment.least ≡ undecided) → C.fragment.least ≡ decided v → enters absorb C ≡ true → ⊥
 none_enters C v f g e h = elim (eqb_tells C.held.level C.fragment.level) [ inl a ↦ grind arith | inr a ↦ grind arith ]
 
 -- who takes in those who are not asked, and was asked itself, does not seek any more
@@ -70,14 +68,14 @@ module _ (t : Graph) (V V' : ℕ → View) (P : ℕ → ℕ → List Message) (W
       u : Turn
       u = merge z
 
-      yet : (c k : ℕ) (w : Least) (v : Outgoing) → (c ≡ k → ⊥) → cond (eqb c k) w undecided ≡ decided v → ⊥
+      yet : (c k : ℕ) (w : Least) (v : Option ℕ) → (c ≡ k → ⊥) → cond (eqb c k) w undecided ≡ decided v → ⊥
       yet c k w v d e = let f : eqb c k ≡ false = grind arith in grind arith
 
       asked : (l c k : ℕ) (a b : Bool) → (c ≡ k → ⊥) → (eqb l c || (not (eqb c k) && (eqb l c || eqb l k))) ≡ true → b ≡ cond (not (eqb c k) && (eqb l c || eqb l k)) true a → b ≡ false → ⊥
       asked l c k a b d o e s = let f : eqb c k ≡ false = grind arith in grind arith
 
   -- a node wakes: it is alone under its label
-  pub wakes : (me b : ℕ) (k : Option ℕ) (z : Outgoing) → ((a : ℕ) → (a ≡ i → ⊥) → (V a).own.label ≡ (V i).own.label → ⊥) → (1 ≤ (V i).fragment.level → ⊥) → ((y : ℕ) → Edge t i y → lighter (Weight (t.weight i y)) z ≡ false) → All (starts me b k z) → Outward t V'
+  pub wakes : (me b : ℕ) (k : Option ℕ) (z : Option ℕ) → ((a : ℕ) → (a ≡ i → ⊥) → (V a).own.label ≡ (V i).own.label → ⊥) → (1 ≤ (V i).fragment.level → ⊥) → ((y : ℕ) → Edge t i y → lighter (Some (t.weight i y)) z ≡ false) → All (starts me b k z) → Outward t V'
   wakes me b k z alone low least S = outward_by (inside u (V i) (V j)) (V i).own.label (fragments u (V i) (V j)).level (fragments u (V i) (V j)).least
       (record {
         others = λ a o. outside u (V i) (V j) (V a) (V' a) o (S a);
@@ -95,11 +93,11 @@ module _ (t : Graph) (V V' : ℕ → View) (P : ℕ → ℕ → List Message) (W
       only : (x : ℕ) → inside u (V i) (V j) (V x).own.label ≡ true → x ≡ i
       only x o = elim (eqb_tells x i) [ inl e ↦ e.1 | inr e ↦ absurd (alone x e.1 (label_in false (V x).own.label (V i).own.label o)) ]
 
-      is : (x y : ℕ) (v : Outgoing) → Edge t x y → x ≡ i → decided z ≡ decided v → lighter (Weight (t.weight x y)) v ≡ false
-      is x y v l e f = subst (λ v. lighter (Weight (t.weight x y)) v ≡ false) (decided_same f) (subst (λ x. Edge t x y → lighter (Weight (t.weight x y)) z ≡ false) (sym e) (least y) l)
+      is : (x y : ℕ) (v : Option ℕ) → Edge t x y → x ≡ i → decided z ≡ decided v → lighter (Some (t.weight x y)) v ≡ false
+      is x y v l e f = subst (λ v. lighter (Some (t.weight x y)) v ≡ false) (decided_same f) (subst (λ x. Edge t x y → lighter (Some (t.weight x y)) z ≡ false) (sym e) (least y) l)
 
   -- the core decides on w, of which nobody asked has anything lighter
-  pub decides : (u : Turn) (w : Outgoing) → ((l : ℕ) → moves u (V i) (V j) l ≡ false) → (fragments u (V i) (V j)).level ≡ (V i).fragment.level → (fragments u (V i) (V j)).least ≡ decided w → (V i).fragment.least ≡ undecided → 1 ≤ (V i).fragment.level → ((x : ℕ) → (V x).own.label ≡ (V i).own.label → (V x).own.in_search ≡ true → Done w (V x)) → All u → Outward t V'
+  pub decides : (u : Turn) (w : Option ℕ) → ((l : ℕ) → moves u (V i) (V j) l ≡ false) → (fragments u (V i) (V j)).level ≡ (V i).fragment.level → (fragments u (V i) (V j)).least ≡ decided w → (V i).fragment.least ≡ undecided → 1 ≤ (V i).fragment.level → ((x : ℕ) → (V x).own.label ≡ (V i).own.label → (V x).own.in_search ≡ true → Done w (V x)) → All u → Outward t V'
   decides u w mv lv le un high D S = outward_by (inside u (V i) (V j)) (V i).own.label (fragments u (V i) (V j)).level (fragments u (V i) (V j)).least
       (record { others = λ a o. outside u (V i) (V j) (V a) (V' a) o (S a); label = in_label u S; level = in_level u S; least = in_least u S; lightest = lights; answered = answers; spared = λ x o e. absurd (undecided_not w (sym e ∙ le)) }) F
     where
@@ -112,8 +110,8 @@ module _ (t : Graph) (V V' : ℕ → View) (P : ℕ → ℕ → List Message) (W
       quiet : (x y : ℕ) → Edge t x y → (V x).own.reported ≡ true → (V x).held.testing ≡ None
       quiet x y l r = elim (W.asks x) [ inl e ↦ e | inr e ↦ absurd (not_both ((W.sane x y l).find_reported e) r) ]
 
-      lights : (x y : ℕ) (v : Outgoing) → Edge t x y → inside u (V i) (V j) (V x).own.label ≡ true → inside u (V i) (V j) (V y).own.label ≡ false → (fragments u (V i) (V j)).least ≡ decided v → lighter (Weight (t.weight x y)) v ≡ false
-      lights x y v l o n e = subst (λ v. lighter (Weight (t.weight x y)) v ≡ false) (decided_same (sym le ∙ e)) (go (bool (V x).own.in_search))
+      lights : (x y : ℕ) (v : Option ℕ) → Edge t x y → inside u (V i) (V j) (V x).own.label ≡ true → inside u (V i) (V j) (V y).own.label ≡ false → (fragments u (V i) (V j)).least ≡ decided v → lighter (Some (t.weight x y)) v ≡ false
+      lights x y v l o n e = subst (λ v. lighter (Some (t.weight x y)) v ≡ false) (decided_same (sym le ∙ e)) (go (bool (V x).own.in_search))
         where
           h : (V x).own.label ≡ (V i).own.label
           h = ours x o
@@ -127,15 +125,15 @@ module _ (t : Graph) (V V' : ℕ → View) (P : ℕ → ℕ → List Message) (W
           yet : (V x).fragment.least ≡ undecided
           yet = (λ k. (f k).least) ∙ un
 
-          by : (z : ℕ) × Spared t V x z → lighter (Weight (t.weight x y)) w ≡ false
-          by (z, p) = lighter_trans (Weight (t.weight x y)) (V z).held.best_weight w (p.least y l d) (D z (p.label ∙ h) p.settled.in_search).2
+          by : (z : ℕ) × Spared t V x z → lighter (Some (t.weight x y)) w ≡ false
+          by (z, p) = lighter_trans (Some (t.weight x y)) (V z).held.best_weight w (p.least y l d) (D z (p.label ∙ h) p.settled.in_search).2
 
-          go : ((V x).own.in_search ≡ true) ⊎ ((V x).own.in_search ≡ false) → lighter (Weight (t.weight x y)) w ≡ false
-          go (inl s) = let k = D x h s in lighter_trans (Weight (t.weight x y)) (V x).held.best_weight w
+          go : ((V x).own.in_search ≡ true) ⊎ ((V x).own.in_search ≡ false) → lighter (Some (t.weight x y)) w ≡ false
+          go (inl s) = let k = D x h s in lighter_trans (Some (t.weight x y)) (V x).held.best_weight w
               (W.heavier x y l k.0 s (quiet x y l k.1) (subst (λ l. 1 ≤ l) (sym (k.0 ∙ λ z. (f z).level)) high) (out_basic d yet (W.edges x y l))) k.2
           go (inr s) = by (F.spared x yet s)
 
-      answers : (x : ℕ) (v : Outgoing) → inside u (V i) (V j) (V x).own.label ≡ true → (fragments u (V i) (V j)).least ≡ decided v → 1 ≤ (fragments u (V i) (V j)).level → (V' x).own.in_search ≡ true → ((V' x).held.level ≡ (fragments u (V i) (V j)).level) × ((V' x).own.reported ≡ true)
+      answers : (x : ℕ) (v : Option ℕ) → inside u (V i) (V j) (V x).own.label ≡ true → (fragments u (V i) (V j)).least ≡ decided v → 1 ≤ (fragments u (V i) (V j)).level → (V' x).own.in_search ≡ true → ((V' x).held.level ≡ (fragments u (V i) (V j)).level) × ((V' x).own.reported ≡ true)
       answers x v o e r s = let h = ours x o in let a = sym (asked x o) ∙ s in let k = D x h a in let g = (S x).keeps a k.0 k.1 in (g.0 ∙ k.0 ∙ (λ z. (W.same x i h z).level) ∙ sym lv, g.1)
 
   -- a fragment of a lower level is taken in
@@ -150,12 +148,12 @@ module _ (t : Graph) (V V' : ℕ → View) (P : ℕ → ℕ → List Message) (W
       z = t.weight i j
 
       -- the edge of the connect leads out, so it is no lighter than what C's fragment has decided on
-      over : (v : Outgoing) → C.fragment.least ≡ decided v → lighter (Weight z) v ≡ false
+      over : (v : Option ℕ) → C.fragment.least ≡ decided v → lighter (Some z) v ≡ false
       over v e = F.lightest i j ij v H.differ e
 
       -- and what leads out of J's is no lighter than it
-      beyond : (x y : ℕ) → Edge t x y → (V x).own.label ≡ (V j).own.label → ((V x).own.label ≡ (V y).own.label → ⊥) → lighter (Weight (t.weight x y)) (Weight z) ≡ false
-      beyond x y l e d = F.lightest x y l (Weight z) d ((λ k. (W.same x j e k).least) ∙ H.least)
+      beyond : (x y : ℕ) → Edge t x y → (V x).own.label ≡ (V j).own.label → ((V x).own.label ≡ (V y).own.label → ⊥) → lighter (Some (t.weight x y)) (Some z) ≡ false
+      beyond x y l e d = F.lightest x y l (Some z) d ((λ k. (W.same x j e k).least) ∙ H.least)
 
       mine : (l : ℕ) → (eqb l C.own.label || eqb l (V j).own.label) ≡ true → (l ≡ (V j).own.label → ⊥) → l ≡ C.own.label
       mine l o d = other_one l C.own.label (V j).own.label o d
@@ -166,14 +164,14 @@ module _ (t : Graph) (V V' : ℕ → View) (P : ℕ → ℕ → List Message) (W
       enter : (a : ℕ) → (V a).own.label ≡ (V j).own.label → (V' a).own.in_search ≡ enters absorb C
       enter a e = (S a).in_search ∙ cond-true (eqb (V a).own.label (V j).own.label) (enters absorb C) (V a).own.in_search (eqb_on (V a).own.label (V j).own.label e)
 
-      lights : (x y : ℕ) (v : Outgoing) → Edge t x y → inside absorb C (V j) (V x).own.label ≡ true → inside absorb C (V j) (V y).own.label ≡ false → C.fragment.least ≡ decided v → lighter (Weight (t.weight x y)) v ≡ false
+      lights : (x y : ℕ) (v : Option ℕ) → Edge t x y → inside absorb C (V j) (V x).own.label ≡ true → inside absorb C (V j) (V y).own.label ≡ false → C.fragment.least ≡ decided v → lighter (Some (t.weight x y)) v ≡ false
       lights x y v l o n e = go (eqb_tells (V x).own.label (V j).own.label)
         where
           out : (eqb (V y).own.label C.own.label ≡ false) × (eqb (V y).own.label (V j).own.label ≡ false)
           out = not_in (eqb (V y).own.label C.own.label) (eqb (V y).own.label (V j).own.label) n
 
-          go : ((eqb (V x).own.label (V j).own.label ≡ true) × ((V x).own.label ≡ (V j).own.label)) ⊎ ((eqb (V x).own.label (V j).own.label ≡ false) × ((V x).own.label ≡ (V j).own.label → ⊥)) → lighter (Weight (t.weight x y)) v ≡ false
-          go (inl a) = lighter_trans (Weight (t.weight x y)) (Weight z) v (beyond x y l a.1 (λ k. eqb_not (V y).own.label (V j).own.label out.1 (sym k ∙ a.1))) (over v e)
+          go : ((eqb (V x).own.label (V j).own.label ≡ true) × ((V x).own.label ≡ (V j).own.label)) ⊎ ((eqb (V x).own.label (V j).own.label ≡ false) × ((V x).own.label ≡ (V j).own.label → ⊥)) → lighter (Some (t.weight x y)) v ≡ false
+          go (inl a) = lighter_trans (Some (t.weight x y)) (Some z) v (beyond x y l a.1 (λ k. eqb_not (V y).own.label (V j).own.label out.1 (sym k ∙ a.1))) (over v e)
           go (inr a) = let h = mine (V x).own.label o a.1 in F.lightest x y l v (λ k. eqb_not (V y).own.label C.own.label out.0 (sym k ∙ h)) ((λ k. (W.same x i h k).least) ∙ e)
 
       high : 1 ≤ C.held.level
@@ -182,7 +180,7 @@ module _ (t : Graph) (V V' : ℕ → View) (P : ℕ → ℕ → List Message) (W
           above_none : (a b : ℕ) → a < b → 1 ≤ b
           above_none a b h = omega arith
 
-      answers : (x : ℕ) (v : Outgoing) → inside absorb C (V j) (V x).own.label ≡ true → C.fragment.least ≡ decided v → 1 ≤ C.fragment.level → (V' x).own.in_search ≡ true → ((V' x).held.level ≡ C.fragment.level) × ((V' x).own.reported ≡ true)
+      answers : (x : ℕ) (v : Option ℕ) → inside absorb C (V j) (V x).own.label ≡ true → C.fragment.least ≡ decided v → 1 ≤ C.fragment.level → (V' x).own.in_search ≡ true → ((V' x).held.level ≡ C.fragment.level) × ((V' x).own.reported ≡ true)
       answers x v o e r s = go (eqb_tells (V x).own.label (V j).own.label)
         where
           go : ((eqb (V x).own.label (V j).own.label ≡ true) × ((V x).own.label ≡ (V j).own.label)) ⊎ ((eqb (V x).own.label (V j).own.label ≡ false) × ((V x).own.label ≡ (V j).own.label → ⊥)) → ((V' x).held.level ≡ C.fragment.level) × ((V' x).own.reported ≡ true)
@@ -190,10 +188,10 @@ module _ (t : Graph) (V V' : ℕ → View) (P : ℕ → ℕ → List Message) (W
           go (inr a) = let h = mine (V x).own.label o a.1 in let f = W.same x i h in let b = sym (stay x a.1) ∙ s in let k = F.answered x v ((λ q. (f q).least) ∙ e) (subst (λ l. 1 ≤ l) (sym (λ q. (f q).level)) r) b in let g = (S x).keeps b k.0 k.1 in (g.0 ∙ k.0 ∙ (λ q. (f q).level), g.1)
 
       -- who serves one of C's fragment
-      serves : (x s : ℕ) → (V' x).own.label ≡ C.own.label → (V s).own.label ≡ C.own.label → Settled (V s) → ((y : ℕ) → Edge t x y → ((V' x).own.label ≡ (V' y).own.label → ⊥) → lighter (Weight (t.weight x y)) (V s).held.best_weight ≡ false) → Spared t V' x s
+      serves : (x s : ℕ) → (V' x).own.label ≡ C.own.label → (V s).own.label ≡ C.own.label → Settled (V s) → ((y : ℕ) → Edge t x y → ((V' x).own.label ≡ (V' y).own.label → ⊥) → lighter (Some (t.weight x y)) (V s).held.best_weight ≡ false) → Spared t V' x s
       serves x s e h p f = let n : (V s).own.label ≡ (V j).own.label → ⊥ = λ k. H.differ (sym h ∙ k) in let o : inside absorb C (V j) (V s).own.label ≡ true = in_first (V s).own.label C.own.label (eqb (V s).own.label (V j).own.label) h in
           let k = settled_on (V s) (V' s) (stay s n) (in_level absorb S s o ∙ sym (λ q. (W.same s i h q).level)) (S s).keeps p in
-          record { label = in_label absorb S s o ∙ sym e; settled = k.0; least = λ y l d. subst (λ b. lighter (Weight (t.weight x y)) b ≡ false) (sym k.1) (f y l d) }
+          record { label = in_label absorb S s o ∙ sym e; settled = k.0; least = λ y l d. subst (λ b. lighter (Some (t.weight x y)) b ≡ false) (sym k.1) (f y l d) }
 
       -- labels that differ afterwards did before
       before : (x y : ℕ) → ((V' x).own.label ≡ (V' y).own.label → ⊥) → (V x).own.label ≡ (V y).own.label → ⊥
@@ -208,8 +206,8 @@ module _ (t : Graph) (V V' : ℕ → View) (P : ℕ → ℕ → List Message) (W
           ours : ((V x).own.label ≡ C.own.label) → (s : ℕ) × Spared t V x s → (s : ℕ) × Spared t V' x s
           ours h (s, p) = (s, serves x s lx (p.label ∙ h) p.settled (λ y l d. p.least y l (before x y d)))
 
-          theirs : (V x).own.label ≡ (V j).own.label → (s : ℕ) → (V s).own.label ≡ C.own.label → Settled (V s) → lighter (Weight z) (V s).held.best_weight ≡ false → (s : ℕ) × Spared t V' x s
-          theirs h s k p f = (s, serves x s lx k p (λ y l d. lighter_trans (Weight (t.weight x y)) (Weight z) (V s).held.best_weight (beyond x y l h (before x y d)) f))
+          theirs : (V x).own.label ≡ (V j).own.label → (s : ℕ) → (V s).own.label ≡ C.own.label → Settled (V s) → lighter (Some z) (V s).held.best_weight ≡ false → (s : ℕ) × Spared t V' x s
+          theirs h s k p f = (s, serves x s lx k p (λ y l d. lighter_trans (Some (t.weight x y)) (Some z) (V s).held.best_weight (beyond x y l h (before x y d)) f))
 
           late : (V x).own.label ≡ (V j).own.label → (s : ℕ) × Spared t V i s → (s : ℕ) × Spared t V' x s
           late h (s, p) = theirs h s p.label p.settled (p.least j ij H.differ)
@@ -217,7 +215,7 @@ module _ (t : Graph) (V V' : ℕ → View) (P : ℕ → ℕ → List Message) (W
           here : (V x).own.label ≡ (V j).own.label → (C.own.in_search ≡ true) ⊎ (C.own.in_search ≡ false) → (s : ℕ) × Spared t V' x s
           here h (inr a) = late h (F.spared i e a)
           here h (inl a) = let b = enters_calm C a (sym (enter x h) ∙ q) in let f = W.heavier i j ij b.0 a (elim (W.asks i) [ inl u ↦ u | inr u ↦ absurd (b.1 u) ]) high mk in
-              theirs h i refl (record { in_search = a; current = b.0; reported = sym (W.answers i b.0 b.1 high) ∙ a; finite = λ n. some z (subst (λ v. lighter (Weight z) v ≡ false) n f) }) f
+              theirs h i refl (record { in_search = a; current = b.0; reported = sym (W.answers i b.0 b.1 high) ∙ a; finite = λ n. some z (subst (λ v. lighter (Some z) v ≡ false) n f) }) f
 
           go : ((eqb (V x).own.label (V j).own.label ≡ true) × ((V x).own.label ≡ (V j).own.label)) ⊎ ((eqb (V x).own.label (V j).own.label ≡ false) × ((V x).own.label ≡ (V j).own.label → ⊥)) → (s : ℕ) × Spared t V' x s
           go (inl a) = here a.1 (bool C.own.in_search)

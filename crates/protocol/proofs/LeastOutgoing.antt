@@ -1,12 +1,10 @@
 -- A fragment that has decided knows of the lightest edge that leads out of it; who was not asked knows of one that serves as well.
-use Rattle.std.proofs.Common.{◌≡◌, ℕ, ◌<◌, ◌≤◌, Bool, true, false, cond, ◌||◌, eqb, ◌⊎◌, List, ◌∷◌, Some, None, sym, refl, ◌∙◌, subst, inl, inr, arith}
+use Rattle.std.proofs.Common.{◌≡◌, ℕ, ◌<◌, ◌≤◌, Bool, true, false, cond, ◌||◌, eqb, ◌⊎◌, List, ◌∷◌, Some, None, sym, refl, ◌∙◌, subst, inl, inr, arith, Option}
 use Rattle.message.specs.declared.messages.Message.{Message}
 use Rattle.message.specs.declared.messages.Message.TheVariants.{Connect, Report}
-use Rattle.message.specs.declared.messages.Outgoing.{Outgoing}
-use Rattle.message.specs.declared.messages.Outgoing.TheVariants.{Nothing, Weight}
 use Rattle.node.specs.declared.state.Status.TheVariants.{Find}
-use Rattle.node.specs.declared.state.Mark.{Mark}
-use Rattle.node.specs.declared.state.Mark.TheVariants.{Basic, Branch, Rejected}
+use Rattle.graph.specs.declared.mark.Mark.{Mark}
+use Rattle.graph.specs.declared.mark.Mark.TheVariants.{Basic, Branch, Rejected}
 use Rattle.node.specs.Rules.{lighter}
 use Rattle.graph.specs.Graph.{Graph, Edge}
 use Rattle.protocol.proofs.Chain.{bool}
@@ -16,24 +14,24 @@ use Rattle.protocol.proofs.Mode.{tells, Mode, free, offered, offers, crossing, t
 
 -- no edge that leads out is lighter than what the fragment has decided on; the edge from A to B weighs w
 abbrev pub Lightest : ℕ → View → View → Type 0
-Lightest w A B = (v : Outgoing) → (A.own.label ≡ B.own.label → ⊥) → A.fragment.least ≡ decided v → lighter (Weight w) v ≡ false
+Lightest w A B = (v : Option ℕ) → (A.own.label ≡ B.own.label → ⊥) → A.fragment.least ≡ decided v → lighter (Some w) v ≡ false
 
 -- once it is decided, who was asked is current and has reported
 abbrev pub Answered : View → Type 0
-Answered A = (v : Outgoing) → A.fragment.least ≡ decided v → 1 ≤ A.fragment.level → A.own.in_search ≡ true → (A.held.level ≡ A.fragment.level) × (A.own.reported ≡ true)
+Answered A = (v : Option ℕ) → A.fragment.least ≡ decided v → 1 ≤ A.fragment.level → A.own.in_search ≡ true → (A.held.level ≡ A.fragment.level) × (A.own.reported ≡ true)
 
 -- it was asked, and has reported of an edge
 pub record Settled (A : View) : Type 0 where
   pub in_search : A.own.in_search ≡ true
   pub current : A.held.level ≡ A.fragment.level
   pub reported : A.own.reported ≡ true
-  pub finite : A.held.best_weight ≡ Nothing → ⊥
+  pub finite : A.held.best_weight ≡ None → ⊥
 
 -- x need not be asked: z of its fragment has reported of an edge that is no heavier than any that leads out at x
 pub record Spared (t : Graph) (V : ℕ → View) (x z : ℕ) : Type 0 where
   pub label : (V z).own.label ≡ (V x).own.label
   pub settled : Settled (V z)
-  pub least : (y : ℕ) → Edge t x y → ((V x).own.label ≡ (V y).own.label → ⊥) → lighter (Weight (t.weight x y)) (V z).held.best_weight ≡ false
+  pub least : (y : ℕ) → Edge t x y → ((V x).own.label ≡ (V y).own.label → ⊥) → lighter (Some (t.weight x y)) (V z).held.best_weight ≡ false
 
 -- THE INVARIANT, of all nodes as V shows them
 pub record Outward (t : Graph) (V : ℕ → View) : Type 0 where
@@ -78,13 +76,13 @@ steps_acted end g C J s = record { label = refl; in_search = refl; level = refl;
 pub not_both : {b : Bool} → b ≡ false → b ≡ true → ⊥
 not_both e f = grind arith
 
-pub undecided_not : (v : Outgoing) → undecided ≡ decided v → ⊥
+pub undecided_not : (v : Option ℕ) → undecided ≡ decided v → ⊥
 undecided_not v e = grind arith
 
-pub weight_not : (w : ℕ) → decided (Weight w) ≡ decided Nothing → ⊥
+pub weight_not : (w : ℕ) → decided (Some w) ≡ decided None → ⊥
 weight_not w e = grind arith
 
-pub decided_same : {v w : Outgoing} → decided v ≡ decided w → v ≡ w
+pub decided_same : {v w : Option ℕ} → decided v ≡ decided w → v ≡ w
 decided_same e = cc
 
 pub in_first : (l k : ℕ) (b : Bool) → l ≡ k → (eqb l k || b) ≡ true
@@ -150,8 +148,8 @@ pub record Duty (t : Graph) (V V' : ℕ → View) (Q : ℕ → Bool) (c lv : ℕ
   pub label : (a : ℕ) → Q (V a).own.label ≡ true → (V' a).own.label ≡ c
   pub level : (a : ℕ) → Q (V a).own.label ≡ true → (V' a).fragment.level ≡ lv
   pub least : (a : ℕ) → Q (V a).own.label ≡ true → (V' a).fragment.least ≡ le
-  pub lightest : (x y : ℕ) (v : Outgoing) → Edge t x y → Q (V x).own.label ≡ true → Q (V y).own.label ≡ false → le ≡ decided v → lighter (Weight (t.weight x y)) v ≡ false
-  pub answered : (x : ℕ) (v : Outgoing) → Q (V x).own.label ≡ true → le ≡ decided v → 1 ≤ lv → (V' x).own.in_search ≡ true → ((V' x).held.level ≡ lv) × ((V' x).own.reported ≡ true)
+  pub lightest : (x y : ℕ) (v : Option ℕ) → Edge t x y → Q (V x).own.label ≡ true → Q (V y).own.label ≡ false → le ≡ decided v → lighter (Some (t.weight x y)) v ≡ false
+  pub answered : (x : ℕ) (v : Option ℕ) → Q (V x).own.label ≡ true → le ≡ decided v → 1 ≤ lv → (V' x).own.in_search ≡ true → ((V' x).held.level ≡ lv) × ((V' x).own.reported ≡ true)
   pub spared : (x : ℕ) → Q (V x).own.label ≡ true → le ≡ undecided → (V' x).own.in_search ≡ false → (z : ℕ) × Spared t V' x z
 
 pub outward_by : {t : Graph} {V V' : ℕ → View} (Q : ℕ → Bool) (c lv : ℕ) (le : Least) → Duty t V V' Q c lv le → Outward t V → Outward t V'
@@ -163,7 +161,7 @@ outward_by {t} {V} {V'} Q c lv le D F = record { lightest = lights; answered = a
     lights : (x y : ℕ) → Edge t x y → Lightest (t.weight x y) (V' x) (V' y)
     lights x y l v d e = go (bool (Q (V x).own.label)) (bool (Q (V y).own.label))
       where
-        go : (Q (V x).own.label ≡ true) ⊎ (Q (V x).own.label ≡ false) → (Q (V y).own.label ≡ true) ⊎ (Q (V y).own.label ≡ false) → lighter (Weight (t.weight x y)) v ≡ false
+        go : (Q (V x).own.label ≡ true) ⊎ (Q (V x).own.label ≡ false) → (Q (V y).own.label ≡ true) ⊎ (Q (V y).own.label ≡ false) → lighter (Some (t.weight x y)) v ≡ false
         go (inl a) (inl b) = absurd (d (D.label x a ∙ sym (D.label y b)))
         go (inl a) (inr b) = D.lightest x y v l a b (sym (D.least x a) ∙ e)
         go (inr a) b = F.lightest x y l v (apart x y a d) (sym (D.others x a).least ∙ e)
@@ -180,7 +178,7 @@ outward_by {t} {V} {V'} Q c lv le D F = record { lightest = lights; answered = a
       where
         on : (a : Q (V x).own.label ≡ false) → (z : ℕ) × Spared t V x z → (z : ℕ) × Spared t V' x z
         on a (z, p) = let o = D.others z (subst (λ l. Q l ≡ false) (sym p.label) a) in let k = settled_on (V z) (V' z) o.in_search o.level o.keeps p.settled in
-            (z, record { label = o.label ∙ p.label ∙ sym (D.others x a).label; settled = k.0; least = λ y l d. subst (λ b. lighter (Weight (t.weight x y)) b ≡ false) (sym k.1) (p.least y l (apart x y a d)) })
+            (z, record { label = o.label ∙ p.label ∙ sym (D.others x a).label; settled = k.0; least = λ y l d. subst (λ b. lighter (Some (t.weight x y)) b ≡ false) (sym k.1) (p.least y l (apart x y a d)) })
 
         go : (Q (V x).own.label ≡ true) ⊎ (Q (V x).own.label ≡ false) → (z : ℕ) × Spared t V' x z
         go (inl a) = D.spared x a (sym (D.least x a) ∙ e) s
@@ -192,7 +190,7 @@ outward_alike {t} {V} {V'} S F = outward_by (λ l. false) 0 0 undecided (record 
 
 -- N8: of a node that was asked and tests nothing, no basic edge is lighter than its best one
 abbrev pub Heavier : ℕ → ℕ → View → Type 0
-Heavier y w A = A.held.level ≡ A.fragment.level → A.own.in_search ≡ true → A.held.testing ≡ None → 1 ≤ A.held.level → A.held.mark y ≡ Basic → lighter (Weight w) A.held.best_weight ≡ false
+Heavier y w A = A.held.level ≡ A.fragment.level → A.own.in_search ≡ true → A.held.testing ≡ None → 1 ≤ A.held.level → A.held.mark y ≡ Basic → lighter (Some w) A.held.best_weight ≡ false
 
 -- what is used of the other invariants (N4, N6, N8, N9, Sane and the edges' ways); P x y is under way from x to y, without questions and answers
 pub record World (t : Graph) (V : ℕ → View) (P : ℕ → ℕ → List Message) : Type 0 where
@@ -245,7 +243,7 @@ head_basic c (above v) = absurd (grind arith)
 head_basic c (below v) = absurd (grind arith)
 
 -- of the two ends of the core when A takes B's report of r and has nothing heavier: both have reported
-pub record Ends (r : Outgoing) (z : ℕ) (A B : View) : Type 0 where
+pub record Ends (r : Option ℕ) (z : ℕ) (A B : View) : Type 0 where
   pub current_a : A.held.level ≡ A.fragment.level
   pub current_b : B.held.level ≡ B.fragment.level
   pub reported_a : A.own.reported ≡ true
@@ -254,9 +252,9 @@ pub record Ends (r : Outgoing) (z : ℕ) (A B : View) : Type 0 where
   pub still_b : B.own.changed ≡ false
   pub best : B.held.best_weight ≡ r
   pub name : A.fragment.name ≡ z
-  pub least : (A.fragment.least ≡ undecided) ⊎ ((A.fragment.least ≡ decided Nothing) × (A.held.best_weight ≡ Nothing))
+  pub least : (A.fragment.least ≡ undecided) ⊎ ((A.fragment.least ≡ decided None) × (A.held.best_weight ≡ None))
 
-pub head_ends : {x y w : ℕ} {A B : View} {p q : List Message} {r : Outgoing} → (A.own.label ≡ B.own.label → A.fragment ≡ B.fragment) → Sane y A → A.held.parent ≡ Some y → (A.held.status ≡ Find → ⊥) → lighter r A.held.best_weight ≡ false → Mode x y w A B p (Report r ∷ q) → Ends r w A B
+pub head_ends : {x y w : ℕ} {A B : View} {p q : List Message} {r : Option ℕ} → (A.own.label ≡ B.own.label → A.fragment ≡ B.fragment) → Sane y A → A.held.parent ≡ Some y → (A.held.status ≡ Find → ⊥) → lighter r A.held.best_weight ≡ false → Mode x y w A B p (Report r ∷ q) → Ends r w A B
 head_ends same n a b c (free v) = absurd (grind arith)
 head_ends same n a b c (offered v) = absurd (grind arith)
 head_ends same n a b c (offers v) = absurd (grind arith)
@@ -272,11 +270,11 @@ head_ends same n a b c (told v) = absurd (grind arith)
 head_ends same n a b c (above v) = absurd (grind arith)
 head_ends same n a b c (below v) = absurd (grind arith)
 
-pub lighter_not : (a b : Outgoing) → lighter a b ≡ true → lighter b a ≡ false
-lighter_not Nothing b e = absurd (grind arith)
-lighter_not (Weight a) Nothing e = refl
-lighter_not (Weight a) (Weight b) e = grind arith
+pub lighter_not : (a b : Option ℕ) → lighter a b ≡ true → lighter b a ≡ false
+lighter_not None b e = absurd (grind arith)
+lighter_not (Some a) None e = refl
+lighter_not (Some a) (Some b) e = grind arith
 
-pub lighter_self : (a : Outgoing) → lighter a a ≡ false
-lighter_self Nothing = refl
-lighter_self (Weight a) = grind arith
+pub lighter_self : (a : Option ℕ) → lighter a a ≡ false
+lighter_self None = refl
+lighter_self (Some a) = grind arith

@@ -1,9 +1,7 @@
 -- The lightest edge out, by what a node did and by every step of the net.
-use Rattle.std.proofs.Common.{◌≡◌, ℕ, suc, ◌<◌, ◌≤◌, true, false, not, ◌&&◌, ◌||◌, T, eqb, ◌⊎◌, List, ◌∷◌, ◌++◌, Some, None, sym, refl, ap, ◌∙◌, subst, inl, inr, arith}
+use Rattle.std.proofs.Common.{◌≡◌, ℕ, suc, ◌<◌, ◌≤◌, true, false, not, ◌&&◌, ◌||◌, T, eqb, ◌⊎◌, List, ◌∷◌, ◌++◌, Some, None, sym, refl, ap, ◌∙◌, subst, inl, inr, arith, Option}
 use Rattle.std.proofs.lemmas.Bool.Decides.{eqb_tells}
 use Rattle.message.specs.declared.messages.Message.{Message}
-use Rattle.message.specs.declared.messages.Outgoing.{Outgoing}
-use Rattle.message.specs.declared.messages.Outgoing.TheVariants.{Nothing, Weight}
 use Rattle.node.specs.declared.state.Status.TheVariants.{Sleeping, Find}
 use Rattle.node.specs.Rules.{lighter}
 use Rattle.graph.specs.Graph.{Graph, Edge, Weights}
@@ -25,7 +23,7 @@ use Rattle.protocol.proofs.Views.{view_else, view_acted}
 pub stale : {a b c : ℕ} → a < b → b ≤ c → a ≡ c → ⊥
 stale p q e = omega arith
 
-no_less : (a b : ℕ) → a ≤ b → lighter (Weight b) (Weight a) ≡ false
+no_less : (a b : ℕ) → a ≤ b → lighter (Some b) (Some a) ≡ false
 no_less a b h = grind arith
 
 -- who has reported stays so, whatever it does
@@ -64,7 +62,7 @@ pub again_moves : (c k l : ℕ) → c ≡ k → (not (eqb c k) && (eqb l c || eq
 again_moves c k l e = let f : eqb c k ≡ true = eqb_on c k e in grind arith
 
 -- when the two ends of the core have nothing lighter than w, nobody who was asked has
-pub core_done : (t : Graph) (weights : Weights t) (V : ℕ → View) (P : ℕ → ℕ → List Message) → World t V P → (i j : ℕ) (w : Outgoing) {r : Outgoing} → Edge t i j → Ends r (t.weight i j) (V i) (V j) → (V i).fragment.least ≡ undecided → (V i).held.parent ≡ Some j → lighter (V i).held.best_weight w ≡ false → lighter r w ≡ false →
+pub core_done : (t : Graph) (weights : Weights t) (V : ℕ → View) (P : ℕ → ℕ → List Message) → World t V P → (i j : ℕ) (w : Option ℕ) {r : Option ℕ} → Edge t i j → Ends r (t.weight i j) (V i) (V j) → (V i).fragment.least ≡ undecided → (V i).held.parent ≡ Some j → lighter (V i).held.best_weight w ≡ false → lighter r w ≡ false →
     (x : ℕ) → (V x).own.label ≡ (V i).own.label → (V x).own.in_search ≡ true → Done w (V x)
 core_done t weights V P W i j w {r} l n un pa lo lr x e s =
     all_done t weights V i j l (λ v e. W.same v i e) un n.name n.still_a n.still_b w (n.current_a, n.reported_a, lo) (n.current_b, n.reported_b, subst (λ b. lighter b w ≡ false) (sym n.best) lr)
@@ -78,7 +76,7 @@ core_done t weights V P W i j w {r} l n un pa lo lr x e s =
 
 module _ (t : Graph) (weights : Weights t) (V V' : ℕ → View) (P : ℕ → ℕ → List Message) (W : World t V P) (F : Outward t V) where
   -- the two ends of the core agree on w: then all who were asked have nothing lighter
-  agree : (i j : ℕ) (u : Turn) (w : Outgoing) {r : Outgoing} → Edge t i j → Ends r (t.weight i j) (V i) (V j) → (V i).fragment.least ≡ undecided → (V i).held.parent ≡ Some j → lighter (V i).held.best_weight w ≡ false → lighter r w ≡ false →
+  agree : (i j : ℕ) (u : Turn) (w : Option ℕ) {r : Option ℕ} → Edge t i j → Ends r (t.weight i j) (V i) (V j) → (V i).fragment.least ≡ undecided → (V i).held.parent ≡ Some j → lighter (V i).held.best_weight w ≡ false → lighter r w ≡ false →
       ((l : ℕ) → moves u (V i) (V j) l ≡ false) → (fragments u (V i) (V j)).level ≡ (V i).fragment.level → (fragments u (V i) (V j)).least ≡ decided w → ((a : ℕ) → Steps u (V i) (V j) (V a) (V' a)) → Outward t V'
   agree i j u w l n un pa lo lr mv lv le S = decides t V V' P W F i j u w mv lv le un (subst (λ l. 1 ≤ l) n.current_a (W.risen i j pa)) (core_done t weights V P W i j w l n un pa lo lr) S
 
@@ -104,14 +102,14 @@ module _ (t : Graph) (weights : Weights t) (V V' : ℕ → View) (P : ℕ → �
   kept_got i j l kj e (Decides-passes {w = w} k c1 c2 c3 c4 c5) S = let o = lighter_not (V i).held.best_weight w c3 in agree i j (decide i k) (V i).held.best_weight l (head_ends kj.same kj.mine c1 c2 o e) (head_turn kj.mine c1 c2 c3 e).least c1 (lighter_self (V i).held.best_weight) o (λ k. refl) refl refl S
   kept_got i j l kj e (Decides-joins {w = w} k c1 c2 c3 c4 c5) S = let o = lighter_not (V i).held.best_weight w c3 in agree i j (decide i k) (V i).held.best_weight l (head_ends kj.same kj.mine c1 c2 o e) (head_turn kj.mine c1 c2 c3 e).least c1 (lighter_self (V i).held.best_weight) o (λ k. refl) refl refl S
   kept_got i j l kj e (Halts {w = w} c1 c2 c3 c4) S = let n = head_ends kj.same kj.mine c1 c2 (subst (λ r. lighter r (V i).held.best_weight ≡ false) (sym c4) refl) e in
-      elim n.least [ inl un ↦ agree i j end Nothing l n un c1 (subst (λ b. lighter b Nothing ≡ false) (sym c3) refl) (subst (λ b. lighter b Nothing ≡ false) (sym c4) refl) (λ k. refl) refl refl S | inr y ↦ calm t V V' P W F i j end (λ k. refl) refl (sym y.0) S ]
+      elim n.least [ inl un ↦ agree i j end None l n un c1 (subst (λ b. lighter b None ≡ false) (sym c3) refl) (subst (λ b. lighter b None ≡ false) (sym c4) refl) (λ k. refl) refl refl S | inr y ↦ calm t V V' P W F i j end (λ k. refl) refl (sym y.0) S ]
   kept_got i j l kj e (Rests c1 c2 c3 c4) S = calm t V V' P W F i j idle (λ k. refl) refl refl S
   kept_got i j l kj e (Changed-passes k c1 c2) S = calm t V V' P W F i j (change i k) (λ k. refl) refl refl S
   kept_got i j l kj e (Changed-joins k c1 c2) S = calm t V V' P W F i j (change i k) (λ k. refl) refl refl S
 
   kept_woke : (i : ℕ) {g : Held} {os : List Send} → ((a : ℕ) → (a ≡ i → ⊥) → (V a).own.label ≡ (V i).own.label → ⊥) → (1 ≤ (V i).fragment.level → ⊥) → (d : Deed t i (V i).held woke g os) → ((a : ℕ) → Steps (turn d) (V i) (V i) (V a) (V' a)) → Outward t V'
-  kept_woke i alone low (Alone c1) S = wakes t V V' P W F i i i i None Nothing alone low (λ y l. absurd (c1.nobody y l.1 l.2 refl)) S
-  kept_woke i alone low (WokeTo k c1) S = wakes t V V' P W F i i i k (Some k) (Weight (t.weight i k)) alone low (λ y l. no_less (t.weight i k) (t.weight i y) (c1.least y l.1 l.2 refl)) S
+  kept_woke i alone low (Alone c1) S = wakes t V V' P W F i i i i None None alone low (λ y l. absurd (c1.nobody y l.1 l.2 refl)) S
+  kept_woke i alone low (WokeTo k c1) S = wakes t V V' P W F i i i k (Some k) (Some (t.weight i k)) alone low (λ y l. no_less (t.weight i k) (t.weight i y) (c1.least y l.1 l.2 refl)) S
 
 -- what is assumed of the net before a step: the modes and what they need; N8; N9; who asks seeks; N4; N6
 pub record Trust (t : Graph) (n : Lifted) (γ : Ghost) : Type 0 where

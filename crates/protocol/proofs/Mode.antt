@@ -1,12 +1,10 @@
 -- The ways that the two ends of an edge can stand to each other.
-use Rattle.std.proofs.Common.{◌≡◌, ℕ, suc, ◌<◌, ◌≤◌, Bool, true, false, cond, ◌||◌, ◌⊎◌, List, [], ◌∷◌, Some}
+use Rattle.std.proofs.Common.{◌≡◌, ℕ, suc, ◌<◌, ◌≤◌, Bool, true, false, cond, ◌||◌, ◌⊎◌, List, [], ◌∷◌, Some, None, Option}
 use Rattle.message.specs.declared.messages.Message.{Message}
 use Rattle.message.specs.declared.messages.Message.TheVariants.{Connect, Initiate, Test, Accept, Reject, Report, Change}
-use Rattle.message.specs.declared.messages.Outgoing.{Outgoing}
-use Rattle.message.specs.declared.messages.Outgoing.TheVariants.{Nothing, Weight}
 use Rattle.node.specs.declared.state.Status.{Status}
 use Rattle.node.specs.declared.state.Status.TheVariants.{Sleeping, Find, Found}
-use Rattle.node.specs.declared.state.Mark.TheVariants.{Basic, Branch, Rejected}
+use Rattle.graph.specs.declared.mark.Mark.TheVariants.{Basic, Branch, Rejected}
 use Rattle.node.specs.Rules.{is_finding, lighter}
 use Rattle.protocol.proofs.Ghost.{undecided, decided, View}
 use Rattle.protocol.proofs.Held.{Held}
@@ -45,7 +43,7 @@ Chain L F S l f (Report w ∷ q) = ⊥
 Chain L F S l f (Change ∷ q) = ⊥
 
 -- a report of weight r under way to a node h, which has reported or not, over what was the core: h will not act on it
-pub record Old (x w : ℕ) (h : Held) (e : Bool) (r : Outgoing) : Type 0 where
+pub record Old (x w : ℕ) (h : Held) (e : Bool) (r : Option ℕ) : Type 0 where
   pub parent : h.parent ≡ Some x
   pub name : h.name ≡ w
   pub still : h.status ≡ Found
@@ -80,7 +78,7 @@ pub record Connecting (x y w : ℕ) (A B : View) (p q : List Message) : Type 0 w
   pub up_b : B.own.up ≡ Some x
   pub changed_b : B.own.changed ≡ true
   pub current_b : B.held.level ≡ B.fragment.level
-  pub least_b : B.fragment.least ≡ decided (Weight w)
+  pub least_b : B.fragment.least ≡ decided (Some w)
   pub levels : B.held.level ≤ A.held.level
   pub sends_b : B.fragment.sends ≡ y
   pub gets_b : B.fragment.gets ≡ x
@@ -97,8 +95,8 @@ pub record Crossing (x y w : ℕ) (A B : View) (p q : List Message) : Type 0 whe
   pub changed_b : B.own.changed ≡ true
   pub current_a : A.held.level ≡ A.fragment.level
   pub current_b : B.held.level ≡ B.fragment.level
-  pub least_a : A.fragment.least ≡ decided (Weight w)
-  pub least_b : B.fragment.least ≡ decided (Weight w)
+  pub least_a : A.fragment.least ≡ decided (Some w)
+  pub least_b : B.fragment.least ≡ decided (Some w)
   pub levels : A.held.level ≡ B.held.level
   pub sends_a : A.fragment.sends ≡ x
   pub gets_a : A.fragment.gets ≡ y
@@ -171,7 +169,7 @@ pub record Core (x y w : ℕ) (A B : View) (p q : List Message) : Type 0 where
   pub current_a : A.held.level ≡ A.fragment.level
   pub out : Told A B p
   pub back : Told B A q
-  pub least : (A.fragment.least ≡ undecided) ⊎ ((A.fragment.least ≡ decided Nothing) × (A.held.best_weight ≡ Nothing) × (B.held.best_weight ≡ Nothing) × (A.own.reported ≡ true) × (B.own.reported ≡ true))
+  pub least : (A.fragment.least ≡ undecided) ⊎ ((A.fragment.least ≡ decided None) × (A.held.best_weight ≡ None) × (B.held.best_weight ≡ None) × (A.own.reported ≡ true) × (B.own.reported ≡ true))
 
 -- the word to change is under way from A to B
 pub record Changing (x y w : ℕ) (A B : View) (p q : List Message) : Type 0 where
@@ -191,7 +189,7 @@ pub record Changing (x y w : ℕ) (A B : View) (p q : List Message) : Type 0 whe
   pub current_a : A.held.level ≡ A.fragment.level
   pub least_a : A.fragment.least ≡ decided A.held.best_weight
   pub least_b : A.held.best_weight ≡ B.held.best_weight
-  pub finite : A.held.best_weight ≡ Nothing → ⊥
+  pub finite : A.held.best_weight ≡ None → ⊥
   pub sends : A.fragment.sends ≡ x
   pub gets : A.fragment.gets ≡ y
   pub in_search_a : A.own.in_search ≡ true

@@ -3,8 +3,6 @@ use Rattle.std.proofs.Common.{◌≡◌, ℕ, zero, suc, ◌+◌, ◌≤◌, Boo
 use Rattle.std.proofs.lemmas.Bool.Decides.{eqb_tells}
 use Rattle.message.specs.declared.messages.Message.{Message}
 use Rattle.message.specs.declared.messages.Message.TheVariants.{Connect, Initiate, Test, Accept, Reject, Report, Change}
-use Rattle.message.specs.declared.messages.Outgoing.{Outgoing}
-use Rattle.message.specs.declared.messages.Outgoing.TheVariants.{Nothing}
 use Rattle.message.specs.declared.messages.Phase.{Phase}
 use Rattle.node.specs.declared.state.Status.TheVariants.{Sleeping, Find}
 use Rattle.node.specs.Rules.{phase_of}
@@ -82,7 +80,7 @@ named_acts lo aw v b (Rests {j} {w} c1 c2 c3 c4) = record { low = v.low; high = 
 named_acts lo aw v b (Changed-passes {j} k c1 c2) = record { low = v.low; high = v.high; seeks = v.seeks }
 named_acts lo aw v b (Changed-joins {j} k c1 c2) = record { low = v.low; high = v.high; seeks = v.seeks }
 
-no_report : (w : Option ℕ) (y : ℕ) (r : Outgoing) (k f : ℕ) (s : Phase) → Has (out_to y (send_to w (Report r))) (Initiate k f s) → ⊥
+no_report : (w : Option ℕ) (y : ℕ) (r : Option ℕ) (k f : ℕ) (s : Phase) → Has (out_to y (send_to w (Report r))) (Initiate k f s) → ⊥
 no_report None y r k f s u = u
 no_report (Some j) y r k f s u = grind arith
 
@@ -107,7 +105,7 @@ sends_acts {t} {γ} {i} {z} {h} v b (Absorbs {j} {l} c1) y l' f' s' u = let o : 
 sends_acts {t} {γ} {i} {z} {h} v b (Merges {j} {l} c1 c2) y l' f' s' u = brought (says_one y j l' (h.level + 1) f' (t.weight i j) s' phase.Find u) (omega arith, b)
 sends_acts {t} {γ} {i} {z} {h} v b (Begins {j} {l} {f} {s} c1) y l' f' s' u = brought (says_onward y j l' l f' f s' s h t.count [] (λ x. x) u) b
 sends_acts {t} {γ} {i} {z} {h} v b (Searches-ask {j} {l} {f} k c1) y l' f' s' u = brought (says_onward y j l' l f' f s' phase.Find h t.count (one k (Test l f)) (λ x. grind arith) u) b
-sends_acts {t} {γ} {i} {z} {h} v b (Searches-report {j} {l} {f} c1 c2 c3) y l' f' s' u = brought (says_onward y j l' l f' f s' phase.Find h t.count (one j (Report Nothing)) (λ x. grind arith) u) b
+sends_acts {t} {γ} {i} {z} {h} v b (Searches-report {j} {l} {f} c1 c2 c3) y l' f' s' u = brought (says_onward y j l' l f' f s' phase.Find h t.count (one j (Report None)) (λ x. grind arith) u) b
 sends_acts {t} {γ} {i} {z} {h} v b (Searches-wait {j} {l} {f} c1 c2) y l' f' s' u = brought (says_onward y j l' l f' f s' phase.Find h t.count [] (λ x. x) u) b
 sends_acts {t} {γ} {i} {z} {h} v b (Accepts {j} {l} {f} c1 c2) y l' f' s' u = absurd (grind arith)
 sends_acts {t} {γ} {i} {z} {h} v b (Rejects {j} {l} {f} c1 c2 c3) y l' f' s' u = absurd (grind arith)

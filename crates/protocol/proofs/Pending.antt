@@ -4,7 +4,7 @@ use Rattle.message.specs.declared.messages.Message.{Message}
 use Rattle.message.specs.declared.messages.Message.TheVariants.{Connect, Test, Accept, Reject, Report}
 use Rattle.node.specs.declared.state.Status.{Status}
 use Rattle.node.specs.declared.state.Status.TheVariants.{Sleeping, Find, Found}
-use Rattle.node.specs.declared.state.Mark.TheVariants.{Basic, Branch}
+use Rattle.graph.specs.declared.mark.Mark.TheVariants.{Basic, Branch}
 use Rattle.node.specs.Rules.{is_branch, is_find}
 use Rattle.protocol.proofs.Awaits.{is_parent, awaits, branch_is, awaits_parent, awaits_here}
 use Rattle.protocol.proofs.Chain.{down_low}

@@ -2,10 +2,9 @@
 use Rattle.std.proofs.Common.{◌≡◌, ℕ, zero, suc, ◌+◌, ◌<◌, ◌≤◌, Bool, true, false, cond, not, ◌&&◌, eqb, ltb, leb, ◌⊎◌, List, [], ◌∷◌, ◌++◌, length, Some, None, Option, refl, arith, length-append}
 use Rattle.message.specs.declared.messages.Message.{Message}
 use Rattle.message.specs.declared.messages.Message.TheVariants.{Connect, Initiate, Test, Accept, Reject, Report, Change}
-use Rattle.message.specs.declared.messages.Outgoing.TheVariants.{Weight}
 use Rattle.node.specs.declared.state.Status.TheVariants.{Sleeping, Find}
-use Rattle.node.specs.declared.state.Mark.{Mark}
-use Rattle.node.specs.declared.state.Mark.TheVariants.{Basic, Branch, Rejected}
+use Rattle.graph.specs.declared.mark.Mark.{Mark}
+use Rattle.graph.specs.declared.mark.Mark.TheVariants.{Basic, Branch, Rejected}
 use Rattle.node.specs.Rules.{is_branch, lighter}
 use Rattle.graph.specs.Graph.{Graph, Edge}
 use Rattle.protocol.proofs.Deed.{woke, In, got, Deed, Alone, WokeTo, Absorbs, Merges, Begins, Searches-ask, Searches-report, Searches-wait, Accepts, Rejects, Crosses-ask, Crosses-report, Crosses-wait, Accepted-report, Accepted-wait, Rejected-ask, Rejected-report, Rejected-wait, Hears-report, Hears-wait, Decides-passes, Decides-joins, Halts, Rests, Changed-passes, Changed-joins}
@@ -268,7 +267,7 @@ balance {t} {i} A J (Rejects {j} {l} {f} c1 c2 c3) M L p ow ac = (grind arith)
 balance {t} {i} A J (Crosses-ask {j} {l} {f} y c1 c2 c3 c4) M L p ow ac = (grind arith)
 balance {t} {i} A J (Crosses-report {j} {l} {f} c1 c2 c3 c4 c5 c6) M L p ow ac = let so = send_one (testing_now None (rejecting j A.held)).parent (Report (testing_now None (rejecting j A.held)).best_weight) in (grind arith)
 balance {t} {i} A J (Crosses-wait {j} {l} {f} c1 c2 c3 c4 c5) M L p ow ac = (grind arith)
-balance {t} {i} A J (Accepted-report {j} c1 c2) M L p ow ac = let so = send_one (bettering j (Weight (t.weight i j)) (testing_now None A.held)).parent (Report (bettering j (Weight (t.weight i j)) (testing_now None A.held)).best_weight) in (grind arith)
+balance {t} {i} A J (Accepted-report {j} c1 c2) M L p ow ac = let so = send_one (bettering j (Some (t.weight i j)) (testing_now None A.held)).parent (Report (bettering j (Some (t.weight i j)) (testing_now None A.held)).best_weight) in (grind arith)
 balance {t} {i} A J (Accepted-wait {j} c1) M L p ow ac = (grind arith)
 balance {t} {i} A J (Rejected-ask {j} y c1) M L p ow ac = (grind arith)
 balance {t} {i} A J (Rejected-report {j} c1 c2 c3) M L p ow ac = let so = send_one (testing_now None (rejecting j A.held)).parent (Report (testing_now None (rejecting j A.held)).best_weight) in (grind arith)

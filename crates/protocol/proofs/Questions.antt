@@ -1,12 +1,11 @@
 -- Every step keeps what is asked and answered over each edge.
-use Rattle.std.proofs.Common.{◌≡◌, ℕ, ◌-◌, true, false, eqb, ◌⊎◌, List, [], ◌∷◌, ◌++◌, Some, None, sym, refl, ap, ◌∙◌, subst, inl, inr, arith}
+use Rattle.std.proofs.Common.{◌≡◌, ℕ, ◌-◌, true, false, eqb, ◌⊎◌, List, [], ◌∷◌, ◌++◌, Some, None, sym, refl, ap, ◌∙◌, subst, inl, inr, arith, Option}
 use Rattle.std.proofs.lemmas.Bool.Decides.{eqb_tells}
 use Rattle.message.specs.declared.messages.Message.{Message}
 use Rattle.message.specs.declared.messages.Message.TheVariants.{Connect, Initiate, Test, Accept, Reject, Report, Change}
-use Rattle.message.specs.declared.messages.Outgoing.{Outgoing}
 use Rattle.node.specs.declared.state.Status.TheVariants.{Sleeping, Find}
-use Rattle.node.specs.declared.state.Mark.{Mark}
-use Rattle.node.specs.declared.state.Mark.TheVariants.{Basic, Branch, Rejected}
+use Rattle.graph.specs.declared.mark.Mark.{Mark}
+use Rattle.graph.specs.declared.mark.Mark.TheVariants.{Basic, Branch, Rejected}
 use Rattle.graph.specs.Graph.{Graph, Edge, Weights}
 use Rattle.protocol.proofs.Asked.{talk_over, talk_asked, talk_beside, talk_far, talk_wake, talk_wake_far, talk_alone, seeks_acts, seeks_wakes}
 use Rattle.protocol.proofs.Control.{control1, control}
@@ -289,7 +288,7 @@ module _ (t : Graph) (weights : Weights t) where
     pub names : (i j : ℕ) → Edge t i j → (n.held i).testing ≡ Some j → (n.held i).name ≡ (n.held j).name → (γ.own i).label ≡ (γ.own j).label
     pub fresh : (i y : ℕ) → (n.held i).status ≡ Sleeping → Edge t i y → Fresh y (view n γ i) (view n γ y)
     pub lone : (i a : ℕ) → (n.held i).status ≡ Sleeping → (a ≡ i → ⊥) → (γ.own a).label ≡ (γ.own i).label → ⊥
-    pub late : (i j y : ℕ) (r : Outgoing) (rest : List Message) → n.way j i ≡ Report r ∷ rest → ((n.held i).parent ≡ Some j → ⊥) → (n.held i).find_count - 1 ≡ 0 → (y ≡ j → ⊥) → Edge t i y → Quiet i y (view n γ i) (view n γ y) (control (n.way i y)) (control (n.way y i))
+    pub late : (i j y : ℕ) (r : Option ℕ) (rest : List Message) → n.way j i ≡ Report r ∷ rest → ((n.held i).parent ≡ Some j → ⊥) → (n.held i).find_count - 1 ≡ 0 → (y ≡ j → ⊥) → Edge t i y → Quiet i y (view n γ i) (view n γ y) (control (n.way i y)) (control (n.way y i))
 
   pub rest_of : (n : Lifted) (γ : Ghost) → Others n γ → ((a : ℕ) → ((n.held a).testing ≡ None) ⊎ ((n.held a).status ≡ Find)) → Talks t n γ → Rest t n γ
   rest_of n γ O N W = record { sane = O.sane; knows = O.knows; suits = fit; fresh = O.fresh; lone = O.lone; late = O.late }

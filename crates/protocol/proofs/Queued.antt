@@ -1,8 +1,7 @@
 -- Queues are short: beside words to begin, no more than one other word, one question and one answer are under way each way.
-use Rattle.std.proofs.Common.{◌≡◌, ℕ, suc, ◌+◌, ◌^◌, ◌<◌, ◌≤◌, Bool, true, false, cond, List, [], ◌∷◌, length, refl, ap, subst, inl, inr, arith}
+use Rattle.std.proofs.Common.{◌≡◌, ℕ, suc, ◌+◌, ◌^◌, ◌<◌, ◌≤◌, Bool, true, false, cond, List, [], ◌∷◌, length, refl, ap, subst, inl, inr, arith, Option}
 use Rattle.message.specs.declared.messages.Message.{Message}
 use Rattle.message.specs.declared.messages.Message.TheVariants.{Connect, Initiate, Test, Accept, Reject, Report, Change}
-use Rattle.message.specs.declared.messages.Outgoing.{Outgoing}
 use Rattle.message.specs.declared.messages.Phase.{Phase}
 use Rattle.node.specs.declared.state.Status.{Status}
 use Rattle.graph.specs.Graph.{Graph, Edge, Weights}
@@ -54,7 +53,7 @@ down_short x w L F S h e (Change ∷ p) c = absurd c
 down_short x w L F S h e (Initiate k n z ∷ p) c = let o = chain_short L F S h.level h.name (Initiate k n z ∷ p) c in omega arith
 down_short x w L F S h e (Report r ∷ p) c = let o = chain_short L F S h.level h.name p c.1 in omega arith
 
-half_short : (r : Bool) (k n : ℕ) (z : Outgoing) (s : Phase) → length (Initiate k n s ∷ cond r (Report z ∷ []) []) ≤ inits (Initiate k n s ∷ cond r (Report z ∷ []) []) + 1
+half_short : (r : Bool) (k n : ℕ) (z : Option ℕ) (s : Phase) → length (Initiate k n s ∷ cond r (Report z ∷ []) []) ≤ inits (Initiate k n s ∷ cond r (Report z ∷ []) []) + 1
 half_short true k n z s = omega arith
 half_short false k n z s = omega arith
 

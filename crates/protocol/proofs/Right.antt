@@ -1,8 +1,8 @@
 -- Every mark is right: a branch belongs to the lightest net, and a rejected edge does not.
 use Rattle.std.proofs.Common.{◌≡◌, ℕ, List, sym, ◌∙◌, inl, inr, arith}
 use Rattle.message.specs.declared.messages.Message.{Message}
-use Rattle.node.specs.declared.state.Mark.{Mark}
-use Rattle.node.specs.declared.state.Mark.TheVariants.{Basic, Branch, Rejected}
+use Rattle.graph.specs.declared.mark.Mark.{Mark}
+use Rattle.graph.specs.declared.mark.Mark.TheVariants.{Basic, Branch, Rejected}
 use Rattle.graph.specs.Graph.{Graph, Edge, Weights, Belongs}
 use Rattle.graph.specs.Theorems.{Other, Detour}
 use Rattle.graph.proofs.Cycle.{cycle}

@@ -1,8 +1,7 @@
 -- What holds of one node goes on to hold.
-use Rattle.std.proofs.Common.{◌≡◌, ℕ, ◌<◌, ◌≤◌, List, ◌++◌, None, inl, inr, arith}
+use Rattle.std.proofs.Common.{◌≡◌, ℕ, ◌<◌, ◌≤◌, List, ◌++◌, None, inl, inr, arith, Option}
 use Rattle.std.proofs.lemmas.Bool.Decides.{eqb_tells}
 use Rattle.message.specs.declared.messages.Message.{Message}
-use Rattle.message.specs.declared.messages.Outgoing.{Outgoing}
 use Rattle.node.specs.declared.state.Status.TheVariants.{Sleeping, Find}
 use Rattle.graph.specs.Graph.{Graph}
 use Rattle.protocol.proofs.Control.{control1}
@@ -41,10 +40,10 @@ sane_acts {t} {i} {j} {y} {A} {J} kj aw ft v e (Changed-passes k c1 c2) = let a 
 sane_acts {t} {i} {j} {y} {A} {J} kj aw ft v e (Changed-joins k c1 c2) = let a = head_change kj.same e in record { low = grind arith; name = λ u1. grind arith; find_current = λ u1. grind arith; find_undecided = λ u1. grind arith; find_in_search = λ u1. grind arith; find_reported = λ u1. grind arith; find_changed = λ u1. grind arith; up_branch = λ u1. grind arith; up_parent = grind arith; parent_branch = λ u1. grind arith; ranked = grind arith; unchanged = λ u1 u2. grind arith; sleeping_reported = λ u1. grind arith; settles = λ u1 u2 u3. grind arith }
 
 -- the others: C acts, J sent
-pub sane_absorb : {y : ℕ} {B : View} (C J : View) → (B.own.label ≡ C.own.label → B.fragment ≡ C.fragment) → (B.own.label ≡ J.own.label → B.fragment ≡ J.fragment) → C.held.level ≤ C.fragment.level → J.held.level < C.held.level → J.held.level ≡ J.fragment.level → (z : Outgoing) → J.fragment.least ≡ decided z → Sane y B → Sane y (follow absorb C J B)
+pub sane_absorb : {y : ℕ} {B : View} (C J : View) → (B.own.label ≡ C.own.label → B.fragment ≡ C.fragment) → (B.own.label ≡ J.own.label → B.fragment ≡ J.fragment) → C.held.level ≤ C.fragment.level → J.held.level < C.held.level → J.held.level ≡ J.fragment.level → (z : Option ℕ) → J.fragment.least ≡ decided z → Sane y B → Sane y (follow absorb C J B)
 sane_absorb {y} {B} C J bc bj c l k z f v = elim (eqb_tells B.own.label J.own.label) [ inl t ↦ let sk : B.held.status ≡ Find → ⊥ = λ u. grind arith in let lt : B.held.level < C.fragment.level = grind arith in record { low = grind arith; name = λ u1. grind arith; find_current = λ u1. grind arith; find_undecided = λ u1. grind arith; find_in_search = λ u1. grind arith; find_reported = λ u1. grind arith; find_changed = λ u1. grind arith; up_branch = λ u1. grind arith; up_parent = grind arith; parent_branch = λ u1. grind arith; ranked = grind arith; unchanged = λ u1 u2. grind arith; sleeping_reported = λ u1. grind arith; settles = λ u1 u2 u3. grind arith } | inr t ↦ record { low = grind arith; name = λ u1. grind arith; find_current = λ u1. grind arith; find_undecided = λ u1. grind arith; find_in_search = λ u1. grind arith; find_reported = λ u1. grind arith; find_changed = λ u1. grind arith; up_branch = λ u1. grind arith; up_parent = grind arith; parent_branch = λ u1. grind arith; ranked = grind arith; unchanged = λ u1 u2. grind arith; sleeping_reported = λ u1. grind arith; settles = λ u1 u2 u3. grind arith } ]
 
-pub sane_merge : {y : ℕ} (w : ℕ) {B : View} (C J : View) → (B.own.label ≡ C.own.label → B.fragment ≡ C.fragment) → (B.own.label ≡ J.own.label → B.fragment ≡ J.fragment) → C.held.level ≡ C.fragment.level → J.held.level ≡ C.held.level → J.held.level ≡ J.fragment.level → (z : Outgoing) → J.fragment.least ≡ decided z → C.fragment.least ≡ decided z → Sane y B → Sane y (follow (merge w) C J B)
+pub sane_merge : {y : ℕ} (w : ℕ) {B : View} (C J : View) → (B.own.label ≡ C.own.label → B.fragment ≡ C.fragment) → (B.own.label ≡ J.own.label → B.fragment ≡ J.fragment) → C.held.level ≡ C.fragment.level → J.held.level ≡ C.held.level → J.held.level ≡ J.fragment.level → (z : Option ℕ) → J.fragment.least ≡ decided z → C.fragment.least ≡ decided z → Sane y B → Sane y (follow (merge w) C J B)
 sane_merge {y} w {B} C J bc bj c l k z f h v = elim (eqb_tells B.own.label J.own.label) [ inl t ↦ let sk : B.held.status ≡ Find → ⊥ = λ u. grind arith in let lt : B.held.level ≤ C.held.level = grind arith in record { low = grind arith; name = λ u1. grind arith; find_current = λ u1. grind arith; find_undecided = λ u1. grind arith; find_in_search = λ u1. grind arith; find_reported = λ u1. grind arith; find_changed = λ u1. grind arith; up_branch = λ u1. grind arith; up_parent = grind arith; parent_branch = λ u1. grind arith; ranked = grind arith; unchanged = λ u1 u2. grind arith; sleeping_reported = λ u1. grind arith; settles = λ u1 u2 u3. grind arith } | inr t ↦ elim (eqb_tells B.own.label C.own.label) [ inl o ↦ let sk : B.held.status ≡ Find → ⊥ = λ u. grind arith in let lt : B.held.level ≤ C.held.level = grind arith in record { low = grind arith; name = λ u1. grind arith; find_current = λ u1. grind arith; find_undecided = λ u1. grind arith; find_in_search = λ u1. grind arith; find_reported = λ u1. grind arith; find_changed = λ u1. grind arith; up_branch = λ u1. grind arith; up_parent = grind arith; parent_branch = λ u1. grind arith; ranked = grind arith; unchanged = λ u1 u2. grind arith; sleeping_reported = λ u1. grind arith; settles = λ u1 u2 u3. grind arith } | inr o ↦ record { low = grind arith; name = λ u1. grind arith; find_current = λ u1. grind arith; find_undecided = λ u1. grind arith; find_in_search = λ u1. grind arith; find_reported = λ u1. grind arith; find_changed = λ u1. grind arith; up_branch = λ u1. grind arith; up_parent = grind arith; parent_branch = λ u1. grind arith; ranked = grind arith; unchanged = λ u1 u2. grind arith; sleeping_reported = λ u1. grind arith; settles = λ u1 u2 u3. grind arith } ] ]
 
 -- nobody of C's fragment seeks

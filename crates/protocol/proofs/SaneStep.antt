@@ -1,9 +1,7 @@
 -- What holds of one node goes on to hold, by every step of the net.
-use Rattle.std.proofs.Common.{◌≡◌, ℕ, Bool, true, false, T, eqb, List, ◌∷◌, ◌++◌, Some, sym, refl, ap, ◌∙◌, subst, inl, inr, arith}
+use Rattle.std.proofs.Common.{◌≡◌, ℕ, Bool, true, false, T, eqb, List, ◌∷◌, ◌++◌, Some, sym, refl, ap, ◌∙◌, subst, inl, inr, arith, None, Option}
 use Rattle.std.proofs.lemmas.Bool.Decides.{eqb_tells}
 use Rattle.message.specs.declared.messages.Message.{Message}
-use Rattle.message.specs.declared.messages.Outgoing.{Outgoing}
-use Rattle.message.specs.declared.messages.Outgoing.TheVariants.{Nothing, Weight}
 use Rattle.node.specs.declared.state.Status.TheVariants.{Find}
 use Rattle.node.specs.Rules.{lighter}
 use Rattle.graph.specs.Graph.{Graph, Edge, Weights}
@@ -33,23 +31,23 @@ sane_again {y} w {B} C J bc e v = record { low = grind arith; name = λ u1. grin
 not_both : {b : Bool} → b ≡ false → b ≡ true → ⊥
 not_both e f = grind arith
 
-ended : {a b : Fragment} {z : Outgoing} → a ≡ b → b.least ≡ decided z → a.least ≡ undecided → ⊥
+ended : {a b : Fragment} {z : Option ℕ} → a ≡ b → b.least ≡ decided z → a.least ≡ undecided → ⊥
 ended e f h = grind arith
 
 module _ (t : Graph) (weights : Weights t) (V : ℕ → View) (P : ℕ → ℕ → List Message) (W : World t V P) where
   -- the two ends of the core agree on w: nobody of its fragment seeks
-  nobody : (i j : ℕ) (w : Outgoing) {r : Outgoing} → Edge t i j → Ends r (t.weight i j) (V i) (V j) → (V i).fragment.least ≡ undecided → (V i).held.parent ≡ Some j → lighter (V i).held.best_weight w ≡ false → lighter r w ≡ false →
+  nobody : (i j : ℕ) (w : Option ℕ) {r : Option ℕ} → Edge t i j → Ends r (t.weight i j) (V i) (V j) → (V i).fragment.least ≡ undecided → (V i).held.parent ≡ Some j → lighter (V i).held.best_weight w ≡ false → lighter r w ≡ false →
       (x y : ℕ) → Edge t x y → (V x).own.label ≡ (V i).own.label → (V x).held.status ≡ Find → ⊥
   nobody i j w l n un pa lo lr x y k e s = not_both ((W.sane x y k).find_reported s) (core_done t weights V P W i j w l n un pa lo lr x e ((W.sane x y k).find_in_search s)).1
 
   -- the core has nothing: nobody of its fragment seeks
-  halted : (i j : ℕ) {r : Outgoing} → Edge t i j → Ends r (t.weight i j) (V i) (V j) → (V i).held.parent ≡ Some j → (V i).held.best_weight ≡ Nothing → r ≡ Nothing → (x y : ℕ) → Edge t x y → (V x).own.label ≡ (V i).own.label → (V x).held.status ≡ Find → ⊥
-  halted i j l n pa b c x y k e s = elim n.least [ inl un ↦ nobody i j Nothing l n un pa (subst (λ o. lighter o Nothing ≡ false) (sym b) refl) (subst (λ o. lighter o Nothing ≡ false) (sym c) refl) x y k e s | inr u ↦ ended (W.same x i e) u.0 ((W.sane x y k).find_undecided s) ]
+  halted : (i j : ℕ) {r : Option ℕ} → Edge t i j → Ends r (t.weight i j) (V i) (V j) → (V i).held.parent ≡ Some j → (V i).held.best_weight ≡ None → r ≡ None → (x y : ℕ) → Edge t x y → (V x).own.label ≡ (V i).own.label → (V x).held.status ≡ Find → ⊥
+  halted i j l n pa b c x y k e s = elim n.least [ inl un ↦ nobody i j None l n un pa (subst (λ o. lighter o None ≡ false) (sym b) refl) (subst (λ o. lighter o None ≡ false) (sym c) refl) x y k e s | inr u ↦ ended (W.same x i e) u.0 ((W.sane x y k).find_undecided s) ]
 
   -- node i takes a message from j, and x is another node
   sane_other : (i j : ℕ) {m : Message} {g : Held} {os : List Send} {p q : List Message} → Edge t i j → Knows t i j (V i) (V j) p q → Mode i j (t.weight i j) (V i) (V j) p (control1 m ++ q) → (d : Deed t i (V i).held (got j m) g os) → (x y : ℕ) → Edge t x y → Sane y (follow (turn d) (V i) (V j) (V x))
-  sane_other i j l kj e (Absorbs c1) x y k = let a = head_absorb c1 e in sane_absorb (V i) (V j) (W.same x i) (W.same x j) kj.mine.low a.low a.current (Weight (t.weight i j)) a.least (W.sane x y k)
-  sane_other i j l kj e (Merges c1 c2) x y k = elim (head_merge c1 c2 e) [ inl a ↦ sane_merge (t.weight i j) (V i) (V j) (W.same x i) (W.same x j) a.current_a a.levels a.current (Weight (t.weight i j)) a.least a.least_a (W.sane x y k) | inr u ↦ sane_again (t.weight i j) (V i) (V j) (W.same x i) u (W.sane x y k) ]
+  sane_other i j l kj e (Absorbs c1) x y k = let a = head_absorb c1 e in sane_absorb (V i) (V j) (W.same x i) (W.same x j) kj.mine.low a.low a.current (Some (t.weight i j)) a.least (W.sane x y k)
+  sane_other i j l kj e (Merges c1 c2) x y k = elim (head_merge c1 c2 e) [ inl a ↦ sane_merge (t.weight i j) (V i) (V j) (W.same x i) (W.same x j) a.current_a a.levels a.current (Some (t.weight i j)) a.least a.least_a (W.sane x y k) | inr u ↦ sane_again (t.weight i j) (V i) (V j) (W.same x i) u (W.sane x y k) ]
   sane_other i j l kj e (Begins c1) x y k = sane_idle (V i) (V j) (W.same x i) (W.sane x y k)
   sane_other i j l kj e (Searches-ask z c1) x y k = sane_idle (V i) (V j) (W.same x i) (W.sane x y k)
   sane_other i j l kj e (Searches-report c1 c2 c3) x y k = sane_idle (V i) (V j) (W.same x i) (W.sane x y k)

@@ -1,11 +1,9 @@
 -- What a turn says of the node that acts and of the one whose message it took.
-use Rattle.std.proofs.Common.{◌≡◌, ℕ, ◌<◌, ◌≤◌, Bool, true, ◌⊎◌, List, ◌∷◌, ◌++◌, Some, refl, ap, ◌∙◌, subst, inl, inr, arith}
+use Rattle.std.proofs.Common.{◌≡◌, ℕ, ◌<◌, ◌≤◌, Bool, true, ◌⊎◌, List, ◌∷◌, ◌++◌, Some, refl, ap, ◌∙◌, subst, inl, inr, arith, None, Option}
 use Rattle.message.specs.declared.messages.Message.{Message}
 use Rattle.message.specs.declared.messages.Message.TheVariants.{Connect, Report, Change}
-use Rattle.message.specs.declared.messages.Outgoing.{Outgoing}
-use Rattle.message.specs.declared.messages.Outgoing.TheVariants.{Nothing, Weight}
 use Rattle.node.specs.declared.state.Status.TheVariants.{Find}
-use Rattle.node.specs.declared.state.Mark.TheVariants.{Basic, Branch}
+use Rattle.graph.specs.declared.mark.Mark.TheVariants.{Basic, Branch}
 use Rattle.node.specs.Rules.{lighter}
 use Rattle.graph.specs.Graph.{Graph, Edge, Weights}
 use Rattle.protocol.proofs.Base.{Good}
@@ -47,7 +45,7 @@ pub record Paired (x y : ℕ) (A B : View) : Type 0 where
   pub same : A.own.label ≡ B.own.label
   pub levels : B.held.level ≡ A.held.level
 
-head_pair : {x y w : ℕ} {A B : View} {p q : List Message} {r : Outgoing} → Sane y A → A.held.parent ≡ Some y → (A.held.status ≡ Find → ⊥) → lighter A.held.best_weight r ≡ true → Mode x y w A B p (Report r ∷ q) → Paired x y A B
+head_pair : {x y w : ℕ} {A B : View} {p q : List Message} {r : Option ℕ} → Sane y A → A.held.parent ≡ Some y → (A.held.status ≡ Find → ⊥) → lighter A.held.best_weight r ≡ true → Mode x y w A B p (Report r ∷ q) → Paired x y A B
 head_pair n a b c (free v) = absurd (grind arith)
 head_pair n a b c (offered v) = absurd (grind arith)
 head_pair n a b c (offers v) = absurd (grind arith)
@@ -79,13 +77,13 @@ head_passed (told v) = grind arith
 head_passed (above v) = absurd (grind arith)
 head_passed (below v) = absurd (grind arith)
 
-lighter_finite : (z r : Outgoing) → lighter z r ≡ true → (v : ℕ) × (z ≡ Weight v)
-lighter_finite Nothing r e = absurd (grind arith)
-lighter_finite (Weight v) r e = (v, refl)
+lighter_finite : (z r : Option ℕ) → lighter z r ≡ true → (v : ℕ) × (z ≡ Some v)
+lighter_finite None r e = absurd (grind arith)
+lighter_finite (Some v) r e = (v, refl)
 
-other_finite : (z : Outgoing) → (z ≡ Nothing → ⊥) → (v : ℕ) × (z ≡ Weight v)
-other_finite Nothing e = absurd (e refl)
-other_finite (Weight v) e = (v, refl)
+other_finite : (z : Option ℕ) → (z ≡ None → ⊥) → (v : ℕ) × (z ≡ Some v)
+other_finite None e = absurd (e refl)
+other_finite (Some v) e = (v, refl)
 
 -- A takes the fragment of J into its own
 pub record Absorbed (i j : ℕ) (A J : View) (g : Held) : Type 0 where
@@ -116,7 +114,7 @@ pub record Chosen (w i j : ℕ) (A J : View) (g : Held) : Type 0 where
   pub levels : J.held.level ≡ A.held.level
   pub name : A.fragment.name ≡ w
   pub v : ℕ
-  pub finite : A.held.best_weight ≡ Weight v
+  pub finite : A.held.best_weight ≡ Some v
 
 -- A passes the decision on, which came from J
 pub record Passed (j : ℕ) (A J : View) (g : Held) : Type 0 where
@@ -126,7 +124,7 @@ pub record Passed (j : ℕ) (A J : View) (g : Held) : Type 0 where
   pub current : A.held.level ≡ A.fragment.level
   pub levels : J.held.level ≡ A.held.level
   pub v : ℕ
-  pub least : A.fragment.least ≡ decided (Weight v)
+  pub least : A.fragment.least ≡ decided (Some v)
 
 -- what a turn of A at a message from J says of both; g is what A then holds
 pub data Says (t : Graph) (i j : ℕ) (A J : View) (g : Held) : Turn → Type 0 where
@@ -138,7 +136,7 @@ pub data Says (t : Graph) (i j : ℕ) (A J : View) (g : Held) : Turn → Type 0 
   says_report : g.level ≡ A.held.level → Says t i j A J g report
   says_decide : {k : ℕ} → Chosen (t.weight i j) i j A J g → Says t i j A J g (decide i k)
   says_change : {k : ℕ} → Passed j A J g → Says t i j A J g (change i k)
-  says_end : g.level ≡ A.held.level → (A.fragment.least ≡ undecided) ⊎ (A.fragment.least ≡ decided Nothing) → Says t i j A J g end
+  says_end : g.level ≡ A.held.level → (A.fragment.least ≡ undecided) ⊎ (A.fragment.least ≡ decided None) → Says t i j A J g end
 
 rising : {a b c : ℕ} → a < b → b ≤ c → a < c
 rising l h = omega arith

@@ -2,12 +2,10 @@
 use Rattle.std.proofs.Common.{◌≡◌, ℕ, Bool, true, false, ◌⊎◌, List, [], ◌∷◌, ◌++◌, Some, Option, refl, inl, inr, arith}
 use Rattle.message.specs.declared.messages.Message.{Message}
 use Rattle.message.specs.declared.messages.Message.TheVariants.{Connect, Initiate, Test, Accept, Reject, Report, Change}
-use Rattle.message.specs.declared.messages.Outgoing.{Outgoing}
-use Rattle.message.specs.declared.messages.Outgoing.TheVariants.{Weight}
 use Rattle.node.specs.declared.state.Status.{Status}
 use Rattle.node.specs.declared.state.Status.TheVariants.{Find, Found}
-use Rattle.node.specs.declared.state.Mark.{Mark}
-use Rattle.node.specs.declared.state.Mark.TheVariants.{Basic, Branch, Rejected}
+use Rattle.graph.specs.declared.mark.Mark.{Mark}
+use Rattle.graph.specs.declared.mark.Mark.TheVariants.{Basic, Branch, Rejected}
 use Rattle.node.specs.Rules.{lighter}
 use Rattle.protocol.proofs.Chain.{bool, down_low, down_state}
 use Rattle.protocol.proofs.Ghost.{View, idle, starts, report, follow, acted}
@@ -15,7 +13,7 @@ use Rattle.protocol.proofs.Held.{Held}
 use Rattle.protocol.proofs.Mode.{tells, busy, calls, Old, Down, Child, Mode, free, offered, offers, crossing, took, taken, merged, ahead, behind, core, told, above, below, Sane}
 use Rattle.message.specs.declared.messages.Phase.TheVariants as phase
 
-abbrev pub tuned : Status → (ℕ → Mark) → ℕ → (Option ℕ) → Outgoing → (Option ℕ) → Held → Held
+abbrev pub tuned : Status → (ℕ → Mark) → ℕ → (Option ℕ) → Option ℕ → (Option ℕ) → Held → Held
 tuned s m n b z k h = record { status = s; mark = m; level = h.level; name = h.name; find_count = n; parent = h.parent; best = b; best_weight = z; testing = k; halted = h.halted }
 
 abbrev pub tuned0 : (ℕ → Mark) → ℕ → (Option ℕ) → Bool → Held → Held
@@ -29,13 +27,13 @@ abbrev pub Marks : ℕ → (ℕ → Mark) → View → View → Type 0
 Marks y m A B = (m y ≡ A.held.mark y) ⊎ ((m y ≡ Rejected) × (A.held.mark y ≡ Basic) × (A.own.label ≡ B.own.label))
 
 -- it seeks and may have heard of a better edge, or only asks or answers
-abbrev pub Seeking : Status → (Option ℕ) → Outgoing → Held → Type 0
+abbrev pub Seeking : Status → (Option ℕ) → Option ℕ → Held → Type 0
 Seeking s b z h = ((h.status ≡ Find) × (s ≡ Find)) ⊎ ((s ≡ h.status) × (b ≡ h.best) × (z ≡ h.best_weight))
 
-old_tuned : (s : Status) (m : ℕ → Mark) (n : ℕ) (b : Option ℕ) (z : Outgoing) (k : Option ℕ) (h : Held) (e : Bool) (y w : ℕ) (r : Outgoing) → Seeking s b z h → (h.status ≡ Find → e ≡ false) → Old y w h e r → Old y w (tuned s m n b z k h) e r
+old_tuned : (s : Status) (m : ℕ → Mark) (n : ℕ) (b : Option ℕ) (z : Option ℕ) (k : Option ℕ) (h : Held) (e : Bool) (y w : ℕ) (r : Option ℕ) → Seeking s b z h → (h.status ≡ Find → e ≡ false) → Old y w h e r → Old y w (tuned s m n b z k h) e r
 old_tuned s m n b z k h e y w r f g c = record { parent = c.parent; name = c.name; still = grind arith; reported = c.reported; lighter = grind arith }
 
-down_tuned : (s : Status) (m : ℕ → Mark) (n : ℕ) (b : Option ℕ) (z : Outgoing) (k : Option ℕ) (h : Held) (e : Bool) (y w L F : ℕ) (S : Status) (q : List Message) → Seeking s b z h → (h.status ≡ Find → e ≡ false) → Down y w L F S h e q → Down y w L F S (tuned s m n b z k h) e q
+down_tuned : (s : Status) (m : ℕ → Mark) (n : ℕ) (b : Option ℕ) (z : Option ℕ) (k : Option ℕ) (h : Held) (e : Bool) (y w L F : ℕ) (S : Status) (q : List Message) → Seeking s b z h → (h.status ≡ Find → e ≡ false) → Down y w L F S h e q → Down y w L F S (tuned s m n b z k h) e q
 down_tuned s m n b z k h e y w L F S [] f1 g c = c
 down_tuned s m n b z k h e y w L F S (Connect l ∷ q) f1 g c = absurd c
 down_tuned s m n b z k h e y w L F S (Test l f ∷ q) f1 g c = absurd c
@@ -46,12 +44,12 @@ down_tuned s m n b z k h e y w L F S (Initiate l f a ∷ q) f1 g c = c
 down_tuned s m n b z k h e y w L F S (Report r ∷ q) f1 g c = (old_tuned s m n b z k h e y w r f1 g c.0, c.1)
 
 -- what a node below hears changes nothing in what it is told, unless it reports
-under : {x y w : ℕ} {A B : View} {p q : List Message} (s : Status) (m : ℕ → Mark) (n : ℕ) (b : Option ℕ) (z : Outgoing) (k : Option ℕ) (J : View) → Sane y A → Seeking s b z A.held → Marks y m A B → (A.own.label ≡ B.own.label → A.fragment ≡ B.fragment) → Child y x w B A q p → Child y x w (follow idle A J B) (acted idle (tuned s m n b z k A.held) A J) q p
+under : {x y w : ℕ} {A B : View} {p q : List Message} (s : Status) (m : ℕ → Mark) (n : ℕ) (b : Option ℕ) (z : Option ℕ) (k : Option ℕ) (J : View) → Sane y A → Seeking s b z A.held → Marks y m A B → (A.own.label ≡ B.own.label → A.fragment ≡ B.fragment) → Child y x w B A q p → Child y x w (follow idle A J B) (acted idle (tuned s m n b z k A.held) A J) q p
 under {x} {y} {w} {A} {B} {p} {q} s m n b z k J sa f mk same v =
     let low = down_low y w B.held.level B.held.name B.held.status A.held A.own.reported q v.down in
     record { mark_a = grind arith; mark_b = grind arith; same = grind arith; up_a = v.up_a; up_b = v.up_b; down = down_tuned s m n b z k A.held A.own.reported y w B.held.level B.held.name B.held.status q f sa.find_reported v.down; back = grind arith; asked = λ u h. grind arith; finds = grind arith; spent = v.spent; rank = grind arith; alike = grind arith; calmer = λ u. grind arith; heard = λ u h z. grind arith }
 
-pub tunes : {x y w : ℕ} {A B : View} {p q : List Message} (s : Status) (m : ℕ → Mark) (n : ℕ) (b : Option ℕ) (z : Outgoing) (k : Option ℕ) (J : View) → Sane y A → Seeking s b z A.held → Marks y m A B → (A.own.label ≡ B.own.label → A.fragment ≡ B.fragment) →
+pub tunes : {x y w : ℕ} {A B : View} {p q : List Message} (s : Status) (m : ℕ → Mark) (n : ℕ) (b : Option ℕ) (z : Option ℕ) (k : Option ℕ) (J : View) → Sane y A → Seeking s b z A.held → Marks y m A B → (A.own.label ≡ B.own.label → A.fragment ≡ B.fragment) →
     Mode x y w A B p q → Mode x y w (acted idle (tuned s m n b z k A.held) A J) (follow idle A J B) p q
 tunes {x} {y} {w} {A} {B} {p} {q} s m n b z k J sa f mk same (free v) = free (record { mark_a = grind arith; mark_b = grind arith; out = grind arith; back = grind arith; rejected_a = grind arith; rejected_b = grind arith })
 tunes {x} {y} {w} {A} {B} {p} {q} s m n b z k J sa f mk same (offered v) = offered (record { mark_a = grind arith; mark_b = grind arith; out = grind arith; back = grind arith; differ = grind arith; up_b = grind arith; changed_b = grind arith; current_b = grind arith; least_b = grind arith; levels = grind arith; sends_b = grind arith; gets_b = grind arith })
@@ -104,7 +102,7 @@ idle_queue true f = absurd (f refl)
 idle_queue false f = refl
 
 -- the report parent
-pub reports_in : {x y w : ℕ} {A B : View} {p q : List Message} (m : ℕ → Mark) (n : ℕ) (b : Option ℕ) (z : Outgoing) (k : Option ℕ) (J : View) → Sane y A → Sane x B → Marks y m A B → (A.own.label ≡ B.own.label → A.fragment ≡ B.fragment) → A.held.status ≡ Find → A.held.parent ≡ Some y →
+pub reports_in : {x y w : ℕ} {A B : View} {p q : List Message} (m : ℕ → Mark) (n : ℕ) (b : Option ℕ) (z : Option ℕ) (k : Option ℕ) (J : View) → Sane y A → Sane x B → Marks y m A B → (A.own.label ≡ B.own.label → A.fragment ≡ B.fragment) → A.held.status ≡ Find → A.held.parent ≡ Some y →
     Mode x y w A B p q → Mode x y w (acted report (tuned Found m n b z k A.held) A J) (follow report A J B) (p ++ (Report z ∷ [])) q
 reports_in {x} {y} {w} {A} {B} {p} {q} m n b z k J sa sb mk same st i (free v) = absurd (grind arith)
 reports_in {x} {y} {w} {A} {B} {p} {q} m n b z k J sa sb mk same st i (offered v) = absurd (grind arith)
@@ -126,7 +124,7 @@ calmed sb a e (inl i) h = a i e h
 calmed sb a e (inr c) h = grind arith
 
 -- over the other edges: nobody there is waited for
-pub reports_out : {x y w : ℕ} {A B : View} {p q : List Message} (m : ℕ → Mark) (n : ℕ) (b : Option ℕ) (z : Outgoing) (k : Option ℕ) (J : View) → Sane y A → Sane x B → Marks y m A B → (A.own.label ≡ B.own.label → A.fragment ≡ B.fragment) → A.held.status ≡ Find → (A.held.parent ≡ Some y → ⊥) →
+pub reports_out : {x y w : ℕ} {A B : View} {p q : List Message} (m : ℕ → Mark) (n : ℕ) (b : Option ℕ) (z : Option ℕ) (k : Option ℕ) (J : View) → Sane y A → Sane x B → Marks y m A B → (A.own.label ≡ B.own.label → A.fragment ≡ B.fragment) → A.held.status ≡ Find → (A.held.parent ≡ Some y → ⊥) →
     (A.held.mark y ≡ Branch → (calls p ≡ false) × (q ≡ []) × (B.held.parent ≡ Some x → B.held.level ≡ A.held.level → B.held.status ≡ Find → ⊥) × (lighter B.held.best_weight A.held.best_weight ≡ false)) → lighter A.held.best_weight z ≡ false →
     Mode x y w A B p q → Mode x y w (acted report (tuned Found m n b z k A.held) A J) (follow report A J B) p q
 reports_out {x} {y} {w} {A} {B} {p} {q} m n b z k J sa sb mk same st i aw le (free v) = free (record { mark_a = grind arith; mark_b = grind arith; out = grind arith; back = grind arith; rejected_a = grind arith; rejected_b = grind arith })
@@ -145,7 +143,7 @@ reports_out {x} {y} {w} {A} {B} {p} {q} m n b z k J sa sb mk same st i aw le (ab
 reports_out {x} {y} {w} {A} {B} {p} {q} m n b z k J sa sb mk same st i aw le (below v) = absurd (grind arith)
 
 -- a report of one below, and others are waited for
-pub hears_wait : {x y w : ℕ} {A B : View} {p q : List Message} {r : Outgoing} (n : ℕ) (b : Option ℕ) (z : Outgoing) (k : Option ℕ) → Sane y A → Sane x B → (A.held.parent ≡ Some y → ⊥) → Mode x y w A B p (Report r ∷ q) → Mode x y w (acted idle (tuned A.held.status A.held.mark n b z k A.held) A B) (follow idle A B B) p q
+pub hears_wait : {x y w : ℕ} {A B : View} {p q : List Message} {r : Option ℕ} (n : ℕ) (b : Option ℕ) (z : Option ℕ) (k : Option ℕ) → Sane y A → Sane x B → (A.held.parent ≡ Some y → ⊥) → Mode x y w A B p (Report r ∷ q) → Mode x y w (acted idle (tuned A.held.status A.held.mark n b z k A.held) A B) (follow idle A B B) p q
 hears_wait {x} {y} {w} {A} {B} {p} {q} {r} n b z k sa sb i (free v) = absurd (grind arith)
 hears_wait {x} {y} {w} {A} {B} {p} {q} {r} n b z k sa sb i (offered v) = absurd (grind arith)
 hears_wait {x} {y} {w} {A} {B} {p} {q} {r} n b z k sa sb i (offers v) = absurd (grind arith)
@@ -162,7 +160,7 @@ hears_wait {x} {y} {w} {A} {B} {p} {q} {r} n b z k sa sb i (above v) = above (re
 hears_wait {x} {y} {w} {A} {B} {p} {q} {r} n b z k sa sb i (below v) = absurd (grind arith)
 
 -- and nobody else
-pub hears_report : {x y w : ℕ} {A B : View} {p q : List Message} {r : Outgoing} (n : ℕ) (b : Option ℕ) (z : Outgoing) (k : Option ℕ) → Sane y A → Sane x B → (A.held.parent ≡ Some y → ⊥) → lighter r z ≡ false → Mode x y w A B p (Report r ∷ q) → Mode x y w (acted report (tuned Found A.held.mark n b z k A.held) A B) (follow report A B B) p q
+pub hears_report : {x y w : ℕ} {A B : View} {p q : List Message} {r : Option ℕ} (n : ℕ) (b : Option ℕ) (z : Option ℕ) (k : Option ℕ) → Sane y A → Sane x B → (A.held.parent ≡ Some y → ⊥) → lighter r z ≡ false → Mode x y w A B p (Report r ∷ q) → Mode x y w (acted report (tuned Found A.held.mark n b z k A.held) A B) (follow report A B B) p q
 hears_report {x} {y} {w} {A} {B} {p} {q} {r} n b z k sa sb i le (free v) = absurd (grind arith)
 hears_report {x} {y} {w} {A} {B} {p} {q} {r} n b z k sa sb i le (offered v) = absurd (grind arith)
 hears_report {x} {y} {w} {A} {B} {p} {q} {r} n b z k sa sb i le (offers v) = absurd (grind arith)
@@ -184,7 +182,7 @@ unsure_is Branch a b = absurd (a refl)
 unsure_is Rejected a b = absurd (b refl)
 
 -- waking, over the edge that it lays
-pub wake_to : {x y w : ℕ} {A B : View} {p q : List Message} (d : Bool) (g : Held) (J : View) → g.mark y ≡ Branch → g.level ≡ 0 → A.fragment.level ≡ 0 → A.held.level ≡ 0 → A.held.mark y ≡ Basic → (A.own.label ≡ B.own.label → ⊥) → Mode x y w A B p q → Mode x y w (acted (starts x y (Some y) (Weight w)) g A J) (follow (starts x y (Some y) (Weight w)) A J B) (p ++ (Connect 0 ∷ [])) q
+pub wake_to : {x y w : ℕ} {A B : View} {p q : List Message} (d : Bool) (g : Held) (J : View) → g.mark y ≡ Branch → g.level ≡ 0 → A.fragment.level ≡ 0 → A.held.level ≡ 0 → A.held.mark y ≡ Basic → (A.own.label ≡ B.own.label → ⊥) → Mode x y w A B p q → Mode x y w (acted (starts x y (Some y) (Some w)) g A J) (follow (starts x y (Some y) (Some w)) A J B) (p ++ (Connect 0 ∷ [])) q
 wake_to {x} {y} {w} {A} {B} {p} {q} d g J m l pl hl a e (free v) = let u : B.held.mark x ≡ Basic = unsure_is (B.held.mark x) v.mark_b (λ u. e (v.rejected_b u)) in offers (rw v.out (record { mark_a = grind arith; mark_b = grind arith; out = grind arith; back = grind arith; differ = λ u. grind arith; up_b = grind arith; changed_b = grind arith; current_b = grind arith; least_b = grind arith; levels = grind arith; sends_b = grind arith; gets_b = grind arith }))
 wake_to {x} {y} {w} {A} {B} {p} {q} d g J m l pl hl a e (offered v) = crossing (rw v.out (record { mark_a = grind arith; mark_b = grind arith; out = grind arith; back = grind arith; differ = λ u. grind arith; up_a = grind arith; up_b = grind arith; changed_a = grind arith; changed_b = grind arith; current_a = grind arith; current_b = grind arith; least_a = grind arith; least_b = grind arith; levels = grind arith; sends_a = grind arith; gets_a = grind arith; sends_b = grind arith; gets_b = grind arith }))
 wake_to {x} {y} {w} {A} {B} {p} {q} d g J m l pl hl a e (offers v) = absurd (grind arith)
@@ -201,7 +199,7 @@ wake_to {x} {y} {w} {A} {B} {p} {q} d g J m l pl hl a e (above v) = absurd (grin
 wake_to {x} {y} {w} {A} {B} {p} {q} d g J m l pl hl a e (below v) = absurd (grind arith)
 
 -- and over the others
-pub wake_else : {x y w : ℕ} {A B : View} {p q : List Message} (me b : ℕ) (k : Option ℕ) (z : Outgoing) (g : Held) (J : View) → g.mark y ≡ A.held.mark y → g.level ≡ 0 → A.held.level ≡ 0 → A.held.mark y ≡ Basic → (A.own.label ≡ B.own.label → ⊥) → Mode x y w A B p q → Mode x y w (acted (starts me b k z) g A J) (follow (starts me b k z) A J B) p q
+pub wake_else : {x y w : ℕ} {A B : View} {p q : List Message} (me b : ℕ) (k : Option ℕ) (z : Option ℕ) (g : Held) (J : View) → g.mark y ≡ A.held.mark y → g.level ≡ 0 → A.held.level ≡ 0 → A.held.mark y ≡ Basic → (A.own.label ≡ B.own.label → ⊥) → Mode x y w A B p q → Mode x y w (acted (starts me b k z) g A J) (follow (starts me b k z) A J B) p q
 wake_else {x} {y} {w} {A} {B} {p} {q} me b k z g J m l hl a e (free v) = free (record { mark_a = grind arith; mark_b = grind arith; out = grind arith; back = grind arith; rejected_a = grind arith; rejected_b = grind arith })
 wake_else {x} {y} {w} {A} {B} {p} {q} me b k z g J m l hl a e (offered v) = offered (record { mark_a = grind arith; mark_b = grind arith; out = grind arith; back = grind arith; differ = λ u. grind arith; up_b = grind arith; changed_b = grind arith; current_b = grind arith; least_b = grind arith; levels = grind arith; sends_b = grind arith; gets_b = grind arith })
 wake_else {x} {y} {w} {A} {B} {p} {q} me b k z g J m l hl a e (offers v) = absurd (grind arith)

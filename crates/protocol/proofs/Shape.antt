@@ -2,13 +2,11 @@
 use Rattle.std.proofs.Common.{◌≡◌, ℕ, suc, ◌<◌, ◌≤◌, Bool, true, false, cond, ◌&&◌, eqb, ◌⊎◌, List, [], ◌∷◌, length, get_or, set, Some, None, Option, sym, refl, ap, ◌∙◌, inl, inr, arith}
 use Rattle.node.proofs.Lightest.{lightest_none, lightest_picked, lightest_least}
 use Rattle.std.proofs.lemmas.Bool.Decides.{eqb_tells}
-use Rattle.message.specs.declared.messages.Outgoing.{Outgoing}
-use Rattle.message.specs.declared.messages.Outgoing.TheVariants.{Nothing, Weight}
-use Rattle.node.specs.declared.state.Mark.{Mark}
-use Rattle.node.specs.declared.state.Mark.TheVariants.{Basic, Branch, Rejected}
+use Rattle.graph.specs.declared.mark.Mark.{Mark}
+use Rattle.graph.specs.declared.mark.Mark.TheVariants.{Basic, Branch, Rejected}
 use Rattle.node.specs.declared.state.Node.{Node}
 use Rattle.node.specs.declared.state.Best.{Best}
-use Rattle.node.specs.Rules.{is_basic, lighter, is_edge, has_edge, mark_of, weight_of, lightest}
+use Rattle.node.specs.Rules.{is_basic, lighter, is_edge, has_edge, mark_of, weight_of, lightest, has_basic}
 use Rattle.node.specs.Laws.{Within, There}
 use Rattle.graph.specs.Graph.{Graph, Edge}
 use Rattle.protocol.proofs.Deed.{opens, Picks, Nobody}
@@ -83,56 +81,56 @@ module _ (g : Graph) (i : ℕ) (near : List ℕ) (n : Node) (s : Shape g i near 
   held_rejecting k l =
       λ p. record { status = n.status; mark = λ j. rejected_at k l j p; level = n.level; name = n.name; find_count = n.find_count; parent = h.parent; best = h.best; best_weight = h.best_weight; testing = h.testing; halted = n.halted }
 
-  better_to : (k : ℕ) (w : Outgoing) (b : Best) → best_to near (rules.better_by k w b) ≡ cond (lighter w (rules.best_weight b)) (Some (nb k)) (best_to near b)
-  better_to k Nothing b = refl
-  better_to k (Weight w) best.Nothing = refl
-  better_to k (Weight w) (best.Over l v) = grind arith
+  better_to : (k : ℕ) (w : Option ℕ) (b : Best) → best_to near (rules.better_by k w b) ≡ cond (lighter w (rules.best_weight b)) (Some (nb k)) (best_to near b)
+  better_to k None b = refl
+  better_to k (Some w) best.Nothing = refl
+  better_to k (Some w) (best.Over l v) = grind arith
 
-  better_weight : (k : ℕ) (w : Outgoing) (b : Best) → rules.best_weight (rules.better_by k w b) ≡ cond (lighter w (rules.best_weight b)) w (rules.best_weight b)
-  better_weight k Nothing b = refl
-  better_weight k (Weight w) best.Nothing = refl
-  better_weight k (Weight w) (best.Over l v) = grind arith
+  better_weight : (k : ℕ) (w : Option ℕ) (b : Best) → rules.best_weight (rules.better_by k w b) ≡ cond (lighter w (rules.best_weight b)) w (rules.best_weight b)
+  better_weight k None b = refl
+  better_weight k (Some w) best.Nothing = refl
+  better_weight k (Some w) (best.Over l v) = grind arith
 
-  pub held_bettering : (k : ℕ) (w : Outgoing) → held_of near (rules.bettering k w n) ≡ bettering (nb k) w h
+  pub held_bettering : (k : ℕ) (w : Option ℕ) → held_of near (rules.bettering k w n) ≡ bettering (nb k) w h
   held_bettering k w =
       λ p. record { status = n.status; mark = h.mark; level = n.level; name = n.name; find_count = n.find_count; parent = h.parent; best = better_to k w n.best p; best_weight = better_weight k w n.best p; testing = h.testing; halted = n.halted }
 
   -- the lightest edge of those that are picked
-  pub picks_any : (k : ℕ) → lightest n true 16 ≡ Some k → (k < length near) × Picks g i (λ j. true) (nb k)
+  pub picks_any : (k : ℕ) → lightest n (has_edge n) 16 ≡ Some k → (k < length near) × Picks g i (λ j. true) (nb k)
   picks_any k e =
-      let p = lightest_picked n true 16 k e in
+      let p = lightest_picked n (has_edge n) 16 k e in
       let l : k < length near = inside_of k (grind arith) in
       (l, record { inside = (s.real k l).1; line = (s.real k l).2; picked = refl; least = λ y a b c. least y (s.every y ((s.real k l).0, a, b)) })
     where
       least : (y : ℕ) → (m : ℕ) × (m < length near) × (nb m ≡ y) → g.weight i (nb k) ≤ g.weight i y
       least y (m, q, u) =
-          let p = lightest_picked n true 16 k e in
+          let p = lightest_picked n (has_edge n) 16 k e in
           let l : k < length near = inside_of k (grind arith) in
           let o = few in
           let t = there m q in
-          let z = lightest_least n true 16 k m e (omega arith) (grind arith) in
+          let z = lightest_least n (has_edge n) 16 k m e (omega arith) (grind arith) in
           rw (← u, ← s.weigh k l, ← s.weigh m q) z
 
   -- the lightest basic edge
-  pub picks_basic : (k : ℕ) → lightest n false 16 ≡ Some k → (k < length near) × Picks g i (opens h) (nb k)
+  pub picks_basic : (k : ℕ) → lightest n (has_basic n) 16 ≡ Some k → (k < length near) × Picks g i (opens h) (nb k)
   picks_basic k e =
-      let p = lightest_picked n false 16 k e in
+      let p = lightest_picked n (has_basic n) 16 k e in
       let l : k < length near = inside_of k (grind arith) in
       let m = marked k l in
       (l, record { inside = (s.real k l).1; line = (s.real k l).2; picked = rw m (grind arith); least = λ y a b c. least y c (s.every y ((s.real k l).0, a, b)) })
     where
       least : (y : ℕ) → is_basic (h.mark y) ≡ true → (m : ℕ) × (m < length near) × (nb m ≡ y) → g.weight i (nb k) ≤ g.weight i y
       least y c (m, q, u) =
-          let p = lightest_picked n false 16 k e in
+          let p = lightest_picked n (has_basic n) 16 k e in
           let l : k < length near = inside_of k (grind arith) in
           let o = few in
           let t = there m q in
           let d : is_basic (mark_of n m) ≡ true = ap is_basic (sym (marked m q)) ∙ ap (λ x. is_basic (h.mark x)) u ∙ c in
-          let z = lightest_least n false 16 k m e (omega arith) (grind arith) in
+          let z = lightest_least n (has_basic n) 16 k m e (omega arith) (grind arith) in
           rw (← u, ← s.weigh k l, ← s.weigh m q) z
 
   -- no basic edge, and no edge at all
-  pub nobody_basic : lightest n false 16 ≡ None → i < g.count → Nobody g i (opens h)
+  pub nobody_basic : lightest n (has_basic n) 16 ≡ None → i < g.count → Nobody g i (opens h)
   nobody_basic e inside = record { nobody = λ y a b c. none y c (s.every y (inside, a, b)) }
     where
       none : (y : ℕ) → is_basic (h.mark y) ≡ true → (m : ℕ) × (m < length near) × (nb m ≡ y) → ⊥
@@ -140,17 +138,17 @@ module _ (g : Graph) (i : ℕ) (near : List ℕ) (n : Node) (s : Shape g i near 
           let o = few in
           let t = there m q in
           let d : is_basic (mark_of n m) ≡ true = ap is_basic (sym (marked m q)) ∙ ap (λ x. is_basic (h.mark x)) u ∙ c in
-          let z = lightest_none n false 16 e m (omega arith) in
+          let z = lightest_none n (has_basic n) 16 e m (omega arith) in
           grind arith
 
-  pub nobody_any : lightest n true 16 ≡ None → i < g.count → Nobody g i (λ j. true)
+  pub nobody_any : lightest n (has_edge n) 16 ≡ None → i < g.count → Nobody g i (λ j. true)
   nobody_any e inside = record { nobody = λ y a b c. none y (s.every y (inside, a, b)) }
     where
       none : (y : ℕ) → (m : ℕ) × (m < length near) × (nb m ≡ y) → ⊥
       none y (m, q, u) =
           let o = few in
           let t = there m q in
-          let z = lightest_none n true 16 e m (omega arith) in
+          let z = lightest_none n (has_edge n) 16 e m (omega arith) in
           grind arith
 
   -- is it this edge, by place and by neighbour

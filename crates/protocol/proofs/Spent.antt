@@ -6,7 +6,7 @@ use Rattle.message.specs.declared.messages.Message.{Message}
 use Rattle.node.specs.declared.state.Status.{Status}
 use Rattle.node.specs.declared.state.Status.TheVariants.{Sleeping, Find, Found}
 use Rattle.node.specs.declared.state.Node.{Node}
-use Rattle.node.specs.Rules.{is_sleeping, Sends, lightest, wakes, woken_by}
+use Rattle.node.specs.Rules.{is_sleeping, Sends, lightest, wakes, woken_by, has_edge}
 use Rattle.node.specs.declared.state.Turn.{Turn}
 use Rattle.node.proofs.Took.{Came, came}
 use Rattle.graph.specs.Graph.{Graph, Weights}
@@ -142,7 +142,7 @@ woken_by_lem None n = refl
 woken_by_lem (Some k) n = refl
 
 woken : (n : Node) → is_sleeping n.status ≡ true → is_sleeping (wakes n).node.status ≡ false
-woken n e = rw e (woken_by_lem (lightest n true 16) n)
+woken n e = rw e (woken_by_lem (lightest n (has_edge n) 16) n)
 
 off_length : (front back : List Message) (m : Message) → length (front ++ (m ∷ back)) ≡ length (m ∷ (front ++ back))
 off_length [] back m = refl

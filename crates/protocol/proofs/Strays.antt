@@ -1,14 +1,13 @@
 -- No message at the head of a queue is refused, in a graph of at most 256 nodes.
-use Rattle.std.proofs.Common.{◌≡◌, ℕ, zero, suc, ◌+◌, ◌<◌, ◌≤◌, Bool, true, false, cond, ◌⊎◌, List, ◌∷◌, length, get_or, Some, sym, refl, ap, ◌∙◌, subst, inl, inr, arith, pow_mono}
+use Rattle.std.proofs.Common.{◌≡◌, ℕ, zero, suc, ◌+◌, ◌<◌, ◌≤◌, Bool, true, false, cond, ◌⊎◌, List, ◌∷◌, length, get_or, Some, sym, refl, ap, ◌∙◌, subst, inl, inr, arith, pow_mono, None}
 use Rattle.message.specs.declared.messages.Message.{Message}
 use Rattle.message.specs.declared.messages.Message.TheVariants.{Connect, Initiate, Test, Accept, Reject, Report, Change}
-use Rattle.message.specs.declared.messages.Outgoing.TheVariants.{Nothing}
 use Rattle.message.specs.declared.refusals.Refusal.{Refusal}
 use Rattle.message.specs.Bytes.{fits}
 use Rattle.node.specs.declared.state.Status.{Status}
 use Rattle.node.specs.declared.state.Status.TheVariants.{Sleeping, Find, Found}
-use Rattle.node.specs.declared.state.Mark.{Mark}
-use Rattle.node.specs.declared.state.Mark.TheVariants.{Basic}
+use Rattle.graph.specs.declared.mark.Mark.{Mark}
+use Rattle.graph.specs.declared.mark.Mark.TheVariants.{Basic}
 use Rattle.node.specs.declared.state.Node.{Node}
 use Rattle.node.specs.declared.state.Taking.TheVariants.{Refused}
 use Rattle.node.specs.declared.state.Best.{Best}
@@ -48,10 +47,10 @@ Stray k (Test l f) n = ⊥
 Stray k Accept n = is_edge n.testing k ≡ false
 Stray k Reject n = is_edge n.testing k ≡ false
 Stray k (Report w) n = ⊥
-Stray k Change n = best_weight n.best ≡ Nothing
+Stray k Change n = best_weight n.best ≡ None
 
 -- a change is refused only without a best edge
-no_change : (b : Best) (n o : Node) (r : Refusal) → changes_by b n ≡ Refused o r → best_weight b ≡ Nothing
+no_change : (b : Best) (n o : Node) (r : Refusal) → changes_by b n ≡ Refused o r → best_weight b ≡ None
 no_change best.Nothing n o r e = refl
 no_change (best.Over j w) n o r e = absurd (grind arith)
 

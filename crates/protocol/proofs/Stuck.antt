@@ -1,14 +1,12 @@
 -- Where nobody sleeps or has halted, some message can be taken.
-use Rattle.std.proofs.Common.{◌≡◌, ℕ, zero, suc, ◌+◌, ◌<◌, ◌≤◌, Bool, true, false, cond, ◌⊎◌, [], ◌∷◌, Some, sym, refl, ap, ◌∙◌, subst, inl, inr, arith}
+use Rattle.std.proofs.Common.{◌≡◌, ℕ, zero, suc, ◌+◌, ◌<◌, ◌≤◌, Bool, true, false, cond, ◌⊎◌, [], ◌∷◌, Some, sym, refl, ap, ◌∙◌, subst, inl, inr, arith, None, Option}
 use native.Mathlib.Decide.{dec_lt, ℕ_discrete}
 use Rattle.message.specs.declared.messages.Message.{Message}
 use Rattle.message.specs.declared.messages.Message.TheVariants.{Connect, Initiate, Test, Accept, Reject, Report, Change}
-use Rattle.message.specs.declared.messages.Outgoing.{Outgoing}
-use Rattle.message.specs.declared.messages.Outgoing.TheVariants.{Nothing, Weight}
 use Rattle.node.specs.declared.state.Status.{Status}
 use Rattle.node.specs.declared.state.Status.TheVariants.{Sleeping, Find, Found}
-use Rattle.node.specs.declared.state.Mark.{Mark}
-use Rattle.node.specs.declared.state.Mark.TheVariants.{Basic, Branch}
+use Rattle.graph.specs.declared.mark.Mark.{Mark}
+use Rattle.graph.specs.declared.mark.Mark.TheVariants.{Basic, Branch}
 use Rattle.node.specs.Rules.{lighter}
 use Rattle.graph.specs.Graph.{Graph, Edge, Weights}
 use Rattle.protocol.proofs.Asleep.{Alones}
@@ -42,7 +40,7 @@ pub record Announced (t : Graph) (n : Lifted) (γ : Ghost) (x s g : ℕ) : Type 
 
 -- a fragment that has decided on an edge has sent word of it
 abbrev pub Announces : Graph → Lifted → Ghost → Type 0
-Announces t n γ = (x w : ℕ) → (γ.fragment (γ.own x).label).least ≡ decided (Weight w) → (s : ℕ) × ((g : ℕ) × Announced t n γ x s g)
+Announces t n γ = (x w : ℕ) → (γ.fragment (γ.own x).label).least ≡ decided (Some w) → (s : ℕ) × ((g : ℕ) × Announced t n γ x s g)
 
 -- what is used of the invariants
 pub record Grounds (t : Graph) (n : Lifted) (γ : Ghost) : Type 0 where
@@ -232,7 +230,7 @@ module _ (t : Graph) (weights : Weights t) (n : Lifted) (γ : Ghost) (S : Ground
             flag k f)
       ]
     where
-      either : {l : Least} {v : Outgoing} → l ≡ undecided → l ≡ decided v → ⊥
+      either : {l : Least} {v : Option ℕ} → l ≡ undecided → l ≡ decided v → ⊥
       either a b = grind arith
 
       flag : {b : Bool} → b ≡ true → b ≡ false → ⊥
@@ -262,11 +260,11 @@ module _ (t : Graph) (weights : Weights t) (n : Lifted) (γ : Ghost) (S : Ground
 
   sends : (x : ℕ) (d : Least) → C x ≡ true → Low x → (γ.fragment (γ.own x).label).least ≡ d → Offer x
   sends x undecided c low e = absurd (not_undecided x c low e)
-  sends x (decided Nothing) c low e = let z = S.finished.says x e in absurd (W.going z.0 (same_c x z.0 c z.1.0) z.1.1)
-  sends x (decided (Weight w)) c low e = let z = S.announces x w e in sends_by x z.0 z.1.0 c z.1.1
+  sends x (decided None) c low e = let z = S.finished.says x e in absurd (W.going z.0 (same_c x z.0 c z.1.0) z.1.1)
+  sends x (decided (Some w)) c low e = let z = S.announces x w e in sends_by x z.0 z.1.0 c z.1.1
 
   -- the fragment on the other side sends its own over a lighter edge
-  no_heavier : (a b : ℕ) → lighter (Weight a) (Weight b) ≡ false → b ≤ a
+  no_heavier : (a b : ℕ) → lighter (Some a) (Some b) ≡ false → b ≤ a
   no_heavier a b e = grind arith
 
   marks : {m : Mark} → m ≡ Branch → m ≡ Basic → ⊥
@@ -275,8 +273,8 @@ module _ (t : Graph) (weights : Weights t) (n : Lifted) (γ : Ghost) (S : Ground
   shorter : (x : ℕ) (s : Offer x) (r : Offer s.over) → t.weight r.from r.over < t.weight s.from s.over
   shorter x s r =
       let k = back s.from s.over s.edge in
-      let d : (γ.fragment (γ.own s.over).label).least ≡ decided (Weight (t.weight r.from r.over)) = ap (λ z. (γ.fragment z).least) (sym r.label) ∙ r.mode.least_b in
-      let le = no_heavier (t.weight s.over s.from) (t.weight r.from r.over) (S.outward.lightest s.over s.from k (Weight (t.weight r.from r.over)) s.mode.differ d) in
+      let d : (γ.fragment (γ.own s.over).label).least ≡ decided (Some (t.weight r.from r.over)) = ap (λ z. (γ.fragment z).least) (sym r.label) ∙ r.mode.least_b in
+      let le = no_heavier (t.weight s.over s.from) (t.weight r.from r.over) (S.outward.lightest s.over s.from k (Some (t.weight r.from r.over)) s.mode.differ d) in
       let sy = weights.both s.from s.over in
       let ne : t.weight r.from r.over ≡ t.weight s.from s.over → ⊥ = λ e.
       elim (weights.differ r.from r.over s.from s.over r.edge s.edge e) [

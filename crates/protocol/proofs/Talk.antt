@@ -3,11 +3,10 @@ use Rattle.std.proofs.Common.{◌≡◌, ℕ, ◌<◌, ◌≤◌, true, false, T
 use Rattle.std.proofs.lemmas.Bool.Decides.{eqb_tells}
 use Rattle.message.specs.declared.messages.Message.{Message}
 use Rattle.message.specs.declared.messages.Message.TheVariants.{Connect, Initiate, Test, Accept, Reject, Report, Change}
-use Rattle.message.specs.declared.messages.Outgoing.{Outgoing}
 use Rattle.node.specs.declared.state.Status.{Status}
 use Rattle.node.specs.declared.state.Status.TheVariants.{Find}
-use Rattle.node.specs.declared.state.Mark.{Mark}
-use Rattle.node.specs.declared.state.Mark.TheVariants.{Basic, Branch, Rejected}
+use Rattle.graph.specs.declared.mark.Mark.{Mark}
+use Rattle.graph.specs.declared.mark.Mark.TheVariants.{Basic, Branch, Rejected}
 use Rattle.protocol.proofs.Ghost.{undecided, decided, View, absorb, merge, follow}
 use Rattle.protocol.proofs.Mode.{tells, Connecting, Mode, free, offered, offers, crossing, took, taken, merged, ahead, behind, core, told, above, below, Sane}
 
@@ -435,7 +434,7 @@ over_merge {x} {y} {A} {B} {A'} {B'} {T} {S} {U} {R} k a b c d e f w = go w
     go (left v) = absurd (nb v.testing)
 
 -- LABELS THAT DIFFER STAY DIFFERENT: A seeks, and B is not below it; C acts, J sent
-pub apart_absorb : {z : Outgoing} (A B C J : View) → A.held.level ≡ A.fragment.level → A.fragment.least ≡ undecided → B.held.level ≤ B.fragment.level → (A.own.label ≡ C.own.label → A.fragment ≡ C.fragment) → (A.own.label ≡ J.own.label → A.fragment ≡ J.fragment) → (B.own.label ≡ J.own.label → B.fragment ≡ J.fragment) →
+pub apart_absorb : {z : Option ℕ} (A B C J : View) → A.held.level ≡ A.fragment.level → A.fragment.least ≡ undecided → B.held.level ≤ B.fragment.level → (A.own.label ≡ C.own.label → A.fragment ≡ C.fragment) → (A.own.label ≡ J.own.label → A.fragment ≡ J.fragment) → (B.own.label ≡ J.own.label → B.fragment ≡ J.fragment) →
     C.held.level ≤ C.fragment.level → J.held.level < C.held.level → J.held.level ≡ J.fragment.level → J.fragment.least ≡ decided z → A.held.level ≤ B.held.level → (A.own.label ≡ B.own.label → ⊥) → (follow absorb C J A).own.label ≡ (follow absorb C J B).own.label → ⊥
 apart_absorb A B C J c k b ac aj bj cl jl jc f l d e = go (eqb_tells A.own.label J.own.label) (eqb_tells B.own.label J.own.label)
   where
@@ -444,7 +443,7 @@ apart_absorb A B C J c k b ac aj bj cl jl jc f l d e = go (eqb_tells A.own.label
     go (inr u) (inl v) = let o = bj v.1 in let ac1 : A.own.label ≡ C.own.label = grind arith in let z = ac ac1 in grind arith
     go (inr u) (inr v) = d (grind arith)
 
-pub apart_merge : {z z' : Outgoing} (w : ℕ) (A B C J : View) → A.fragment.least ≡ undecided → (A.own.label ≡ C.own.label → A.fragment ≡ C.fragment) → (A.own.label ≡ J.own.label → A.fragment ≡ J.fragment) → C.fragment.least ≡ decided z → J.fragment.least ≡ decided z' → (A.own.label ≡ B.own.label → ⊥) → (follow (merge w) C J A).own.label ≡ (follow (merge w) C J B).own.label → ⊥
+pub apart_merge : {z z' : Option ℕ} (w : ℕ) (A B C J : View) → A.fragment.least ≡ undecided → (A.own.label ≡ C.own.label → A.fragment ≡ C.fragment) → (A.own.label ≡ J.own.label → A.fragment ≡ J.fragment) → C.fragment.least ≡ decided z → J.fragment.least ≡ decided z' → (A.own.label ≡ B.own.label → ⊥) → (follow (merge w) C J A).own.label ≡ (follow (merge w) C J B).own.label → ⊥
 apart_merge w A B C J k ac aj f h d e = go (eqb_tells A.own.label J.own.label) (eqb_tells A.own.label C.own.label)
   where
     go : ((eqb A.own.label J.own.label ≡ true) × (A.own.label ≡ J.own.label)) ⊎ ((eqb A.own.label J.own.label ≡ false) × (A.own.label ≡ J.own.label → ⊥)) → ((eqb A.own.label C.own.label ≡ true) × (A.own.label ≡ C.own.label)) ⊎ ((eqb A.own.label C.own.label ≡ false) × (A.own.label ≡ C.own.label → ⊥)) → ⊥

@@ -2,9 +2,7 @@
 use Rattle.std.proofs.Common.{◌≡◌, ℕ, zero, suc, ◌+◌, ◌<◌, ◌≤◌, max, Bool, true, false, ◌⊎◌, List, Some, None, Option, sym, refl, ap, ◌∙◌, subst, inl, inr, arith}
 use native.Mathlib.Decide.{ℕ_discrete}
 use Rattle.message.specs.declared.messages.Message.{Message}
-use Rattle.message.specs.declared.messages.Outgoing.{Outgoing}
-use Rattle.message.specs.declared.messages.Outgoing.TheVariants.{Weight}
-use Rattle.node.specs.declared.state.Mark.TheVariants.{Branch}
+use Rattle.graph.specs.declared.mark.Mark.TheVariants.{Branch}
 use Rattle.graph.specs.Graph.{Graph, Edge, Weights}
 use Rattle.protocol.proofs.Base.{Good}
 use Rattle.protocol.proofs.Bests.{Bests}
@@ -54,7 +52,7 @@ hangs m u (below v) = absurd (u v.up_b)
 pub record Knower (n : Lifted) (γ : Ghost) (v x : ℕ) : Type 0 where
   pub unchanged : (γ.own x).changed ≡ false
   pub current : (n.held x).level ≡ (γ.fragment (γ.own x).label).level
-  pub best : (n.held x).best_weight ≡ Weight v
+  pub best : (n.held x).best_weight ≡ Some v
 
 -- below x is the node z where that edge leads out
 record Tip (t : Graph) (γ : Ghost) (v a : ℕ) : Type 0 where
@@ -72,7 +70,7 @@ pub up_parent_lem : {b : Bool} {u p : Option ℕ} {k : ℕ} → (b ≡ true) ⊎
 up_parent_lem (inl e) f g = absurd (grind arith)
 up_parent_lem (inr e) f g = sym e ∙ g
 
-weight_one : {o : Outgoing} {v w : ℕ} → o ≡ Weight v → o ≡ Weight w → w ≡ v
+weight_one : {o : Option ℕ} {v w : ℕ} → o ≡ Some v → o ≡ Some w → w ≡ v
 weight_one a b = grind arith
 
 -- a bound above the values of all nodes
@@ -81,7 +79,7 @@ top g zero = (0, λ i h. absurd (omega arith))
 top g (suc n) = let r = top g n in (max (suc (g n)) r.0, λ i h. elim (ℕ_discrete i n) [ yes e ↦ rw e (omega arith) | no e ↦ omega (arith, r.1 i (omega arith)) ])
 
 module _ (t : Graph) (weights : Weights t) (n : Lifted) (γ : Ghost) (G : Good t n) (sane : (a y : ℕ) → Edge t a y → Sane y (view n γ a)) (E : Edges t n γ) (K : Bests t n γ) where
-  points : (w : Option ℕ) (x : ℕ) → (n.held x).best ≡ w → (v : ℕ) → (n.held x).best_weight ≡ Weight v → (k : ℕ) × ((n.held x).best ≡ Some k)
+  points : (w : Option ℕ) (x : ℕ) → (n.held x).best ≡ w → (v : ℕ) → (n.held x).best_weight ≡ Some v → (k : ℕ) × ((n.held x).best ≡ Some k)
   points None x e v b = absurd (let l = (G.helds x x x).long e in grind arith)
   points (Some k) x e v b = (k, e)
 

@@ -3,7 +3,6 @@ use Rattle.std.proofs.Common.{◌≡◌, ℕ, ◌≤◌, Bool, true, false, cond
 use Rattle.std.proofs.lemmas.Bool.Decides.{eqb_tells}
 use Rattle.message.specs.declared.messages.Message.{Message}
 use Rattle.message.specs.declared.messages.Message.TheVariants.{Connect, Change}
-use Rattle.message.specs.declared.messages.Outgoing.TheVariants.{Weight}
 use Rattle.graph.specs.Graph.{Graph, Edge}
 use Rattle.protocol.proofs.Chain.{bool}
 use Rattle.protocol.proofs.Ghost.{Turn, undecided, decided, View, idle, starts, absorb, merge, begin, report, decide, change, end, moves, fragments, inside, follow, acted}
@@ -24,7 +23,7 @@ pub record Token (t : Graph) (V : ℕ → View) (x s g : ℕ) : Type 0 where
 
 -- THE INVARIANT
 abbrev pub Tokens : Graph → (ℕ → View) → Type 0
-Tokens t V = (x w : ℕ) → (V x).fragment.least ≡ decided (Weight w) → (s : ℕ) × ((g : ℕ) × Token t V x s g)
+Tokens t V = (x w : ℕ) → (V x).fragment.least ≡ decided (Some w) → (s : ℕ) × ((g : ℕ) × Token t V x s g)
 
 -- what is under way from s to g, without questions and answers
 pub token_is : {s g w : ℕ} {A B : View} {p q : List Message} → Sane g A → A.own.up ≡ Some g → A.own.changed ≡ true → (A.fragment.least ≡ undecided → ⊥) → (A.own.label ≡ B.own.label → A.fragment ≡ B.fragment) → (A.own.label ≡ B.own.label → ⊥) ⊎ (B.own.up ≡ Some s) → Mode s g w A B p q → (p ≡ Change ∷ []) ⊎ ((p ≡ Connect A.held.level ∷ []) × (A.own.label ≡ B.own.label → ⊥))
@@ -104,7 +103,7 @@ module _ (t : Graph) (V V' : ℕ → View) (P : ℕ → ℕ → List Message) (W
   elsewhere a o e = not_both o (subst (λ x. In x ≡ true) (sym e) (in_first (V i).own.label (V i).own.label (moves u (V i) (V j) (V i).own.label) refl))
 
   -- a fragment that the turn does not concern keeps its token
-  spared_token : (x w : ℕ) → In x ≡ false → (V' x).fragment.least ≡ decided (Weight w) → (s : ℕ) × ((g : ℕ) × Token t V' x s g)
+  spared_token : (x w : ℕ) → In x ≡ false → (V' x).fragment.least ≡ decided (Some w) → (s : ℕ) × ((g : ℕ) × Token t V' x s g)
   spared_token x w o e = go (F x w (sym here.least ∙ e))
     where
       here : Alike (V x) (V' x)
@@ -126,7 +125,7 @@ module _ (t : Graph) (V V' : ℕ → View) (P : ℕ → ℕ → List Message) (W
   -- the fragment of who acts keeps its token, if the turn leaves where it is
   pub kept_token : Bears (V i) (V' i) → (fragments u (V i) (V j)).sends ≡ (V i).fragment.sends → (fragments u (V i) (V j)).gets ≡ (V i).fragment.gets → (fragments u (V i) (V j)).level ≡ (V i).fragment.level → (fragments u (V i) (V j)).least ≡ (V i).fragment.least →
       ((s g : ℕ) → (V s).own.label ≡ (V i).own.label → (V s).held.level ≡ (V s).fragment.level → ((V s).own.label ≡ (V g).own.label → ⊥) → (V s).held.level ≤ (V g).held.level → Edge t s g → moves u (V i) (V j) (V g).own.label ≡ false) →
-      (x w : ℕ) → In x ≡ true → (V' x).fragment.least ≡ decided (Weight w) → (s : ℕ) × ((g : ℕ) × Token t V' x s g)
+      (x w : ℕ) → In x ≡ true → (V' x).fragment.least ≡ decided (Some w) → (s : ℕ) × ((g : ℕ) × Token t V' x s g)
   kept_token B fs fg fl fe far x w o e = go (F i w (sym fe ∙ sym ((S x).least ∙ cond-true (In x) (fragments u (V i) (V j)).least (V x).fragment.least o) ∙ e))
     where
       go : (s : ℕ) × ((g : ℕ) × Token t V i s g) → (s : ℕ) × ((g : ℕ) × Token t V' x s g)
@@ -165,5 +164,5 @@ module _ (t : Graph) (V V' : ℕ → View) (P : ℕ → ℕ → List Message) (W
       met (inr a) = inr ((R g ng).up ∙ a)
 
   -- both together
-  pub tokens_by : ((x w : ℕ) → In x ≡ true → (V' x).fragment.least ≡ decided (Weight w) → (s : ℕ) × ((g : ℕ) × Token t V' x s g)) → Tokens t V'
+  pub tokens_by : ((x w : ℕ) → In x ≡ true → (V' x).fragment.least ≡ decided (Some w) → (s : ℕ) × ((g : ℕ) × Token t V' x s g)) → Tokens t V'
   tokens_by f x w e = elim (bool (In x)) [ inl o ↦ f x w o e | inr o ↦ spared_token x w o e ]

@@ -3,8 +3,7 @@ use Rattle.std.proofs.Common.{◌≡◌, ℕ, suc, ◌<◌, ◌≤◌, Bool, tru
 use native.Mathlib.Decide.{dec_le}
 use Rattle.std.proofs.lemmas.Bool.Decides.{eqb_tells}
 use Rattle.message.specs.declared.messages.Message.{Message}
-use Rattle.message.specs.declared.messages.Outgoing.TheVariants.{Nothing, Weight}
-use Rattle.node.specs.declared.state.Mark.TheVariants.{Branch}
+use Rattle.graph.specs.declared.mark.Mark.TheVariants.{Branch}
 use Rattle.graph.specs.Graph.{Graph, Edge, Weights}
 use Rattle.protocol.proofs.Control.{control1, control}
 use Rattle.protocol.proofs.Deed.{In, woke, got, Deed, Alone, WokeTo, Absorbs, Merges, Begins, Searches-ask, Searches-report, Searches-wait, Accepts, Rejects, Crosses-ask, Crosses-report, Crosses-wait, Accepted-report, Accepted-wait, Rejected-ask, Rejected-report, Rejected-wait, Hears-report, Hears-wait, Decides-passes, Decides-joins, Halts, Rests, Changed-passes, Changed-joins}
@@ -24,7 +23,7 @@ use Rattle.protocol.proofs.Views.{view_else, view_acted}
 
 -- at first nobody has decided
 pub tokens_start : (t : Graph) → Tokens t (view start first)
-tokens_start t x w e = absurd (undecided_not (Weight w) e)
+tokens_start t x w e = absurd (undecided_not (Some w) e)
 
 bears_same : (u : Turn) (g : Held) (A J : View) → (mine u A J).up ≡ A.own.up → (mine u A J).changed ≡ A.own.changed → g.level ≡ A.held.level → Bears A (acted u g A J)
 bears_same u g A J a b l = record { up = a; bears = λ c k. (b ∙ c, l) }
@@ -32,7 +31,7 @@ bears_same u g A J a b l = record { up = a; bears = λ c k. (b ∙ c, l) }
 bears_begin : (j : ℕ) (b r : Bool) (g : Held) (A J : View) (l : ℕ) → A.own.up ≡ Some j → A.held.level < l → l ≤ A.fragment.level → Bears A (acted (begin j b r) g A J)
 bears_begin j b r g A J l u lt top = record { up = sym u; bears = λ c k. absurd (stale lt top k) }
 
-merged_not : (c k w : ℕ) (l v : Least) → (c ≡ k → ⊥) → v ≡ cond (eqb c k) l undecided → v ≡ decided (Weight w) → ⊥
+merged_not : (c k w : ℕ) (l v : Least) → (c ≡ k → ⊥) → v ≡ cond (eqb c k) l undecided → v ≡ decided (Some w) → ⊥
 merged_not c k w l v d e f = let n : eqb c k ≡ false = grind arith in grind arith
 
 -- the levels on the way round: from the token's end back to itself
@@ -94,8 +93,8 @@ module _ (t : Graph) (weights : Weights t) (V V' : ℕ → View) (P : ℕ → �
   word_got i j {g = g} l ld kj e (Changed-joins k c1 c2) self S D R = let h = head_change kj.same e in let b = ld k c1 in passes i j k (change i k) g b.0 (inl (meets_out (b.1 h.still h.current) c2)) h.current refl self S D R refl refl refl (λ k. refl) refl refl
 
   word_woke : (i : ℕ) {g : Held} {os : List Send} → i < t.count → ((a : ℕ) → (a ≡ i → ⊥) → (V a).own.label ≡ (V i).own.label → ⊥) → (V i).held.level ≡ 0 → (1 ≤ (V i).fragment.level → ⊥) → (d : Deed t i (V i).held woke g os) → V' i ≡ acted (turn d) g (V i) (V i) → ((a : ℕ) → Steps (turn d) (V i) (V i) (V a) (V' a)) → ((a : ℕ) → Words (turn d) (V i) (V i) (V a) (V' a)) → ((a : ℕ) → (a ≡ i → ⊥) → Bears (V a) (V' a)) → Tokens t V'
-  word_woke i ic alone z low (Alone c1) self S D R = tokens_by t V V' P W O F i i (starts i i None Nothing) S D R (λ x w o f. absurd (weight_not w (sym f ∙ in_least t V V' P W O i i (starts i i None Nothing) S x o)))
-  word_woke i {g} ic alone z low (WokeTo k c1) self S D R = let l : Edge t i k = (ic, c1.inside, c1.line) in passes i i k (starts i k (Some k) (Weight (t.weight i k))) g l (inl (λ e. alone k (λ q. apart t weights i k l (sym q)) (sym e))) (z ∙ sym (none (V i).fragment.level low)) (sym z) self S D R refl refl refl (λ k. refl) refl refl
+  word_woke i ic alone z low (Alone c1) self S D R = tokens_by t V V' P W O F i i (starts i i None None) S D R (λ x w o f. absurd (weight_not w (sym f ∙ in_least t V V' P W O i i (starts i i None None) S x o)))
+  word_woke i {g} ic alone z low (WokeTo k c1) self S D R = let l : Edge t i k = (ic, c1.inside, c1.line) in passes i i k (starts i k (Some k) (Some (t.weight i k))) g l (inl (λ e. alone k (λ q. apart t weights i k l (sym q)) (sym e))) (z ∙ sym (none (V i).fragment.level low)) (sym z) self S D R refl refl refl (λ k. refl) refl refl
     where
       none : (n : ℕ) → (1 ≤ n → ⊥) → n ≡ 0
       none n h = elim (dec_le 1 n) [ yes p ↦ absurd (h p) | no p ↦ omega arith ]

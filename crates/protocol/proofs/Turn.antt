@@ -1,13 +1,11 @@
 -- A report over the core, and the word to change.
-use Rattle.std.proofs.Common.{◌≡◌, ℕ, ◌≤◌, Bool, true, false, ◌⊎◌, List, [], ◌∷◌, ◌++◌, Some, refl, inl, inr, arith}
+use Rattle.std.proofs.Common.{◌≡◌, ℕ, ◌≤◌, Bool, true, false, ◌⊎◌, List, [], ◌∷◌, ◌++◌, Some, refl, inl, inr, arith, None, Option}
 use Rattle.message.specs.declared.messages.Message.{Message}
 use Rattle.message.specs.declared.messages.Message.TheVariants.{Connect, Report, Change}
-use Rattle.message.specs.declared.messages.Outgoing.{Outgoing}
-use Rattle.message.specs.declared.messages.Outgoing.TheVariants.{Nothing, Weight}
 use Rattle.node.specs.declared.state.Status.{Status}
 use Rattle.node.specs.declared.state.Status.TheVariants.{Sleeping, Find, Found}
-use Rattle.node.specs.declared.state.Mark.{Mark}
-use Rattle.node.specs.declared.state.Mark.TheVariants.{Basic, Branch, Rejected}
+use Rattle.graph.specs.declared.mark.Mark.{Mark}
+use Rattle.graph.specs.declared.mark.Mark.TheVariants.{Basic, Branch, Rejected}
 use Rattle.node.specs.Rules.{lighter}
 use Rattle.protocol.proofs.Chain.{bool, chain_low, down_low, chain_down}
 use Rattle.protocol.proofs.Ghost.{decided, View, decide, change, end, follow, acted}
@@ -18,7 +16,7 @@ use Rattle.protocol.proofs.Mode.{tells, busy, Down, Told, Mode, free, offered, o
 pub record Best (x k w : ℕ) (A B : View) : Type 0 where
   pub mark : (A.held.mark k ≡ Basic) ⊎ (A.held.mark k ≡ Branch)
   pub parent : A.held.parent ≡ Some k → ⊥
-  pub out : A.held.mark k ≡ Basic → (A.held.best_weight ≡ Weight w) × (A.own.label ≡ B.own.label → ⊥) × (A.held.level ≤ B.held.level)
+  pub out : A.held.mark k ≡ Basic → (A.held.best_weight ≡ Some w) × (A.own.label ≡ B.own.label → ⊥) × (A.held.level ≤ B.held.level)
   pub on : A.held.mark k ≡ Branch → (B.held.parent ≡ Some x) × (B.own.reported ≡ true) × (B.own.changed ≡ false) × (B.held.level ≡ A.held.level) × (B.held.name ≡ A.held.name) × (B.held.best_weight ≡ A.held.best_weight)
 
 -- g is the node with the edge to k a branch, or the node as it was
@@ -41,7 +39,7 @@ old_report A B b r o l i n m e (inr (inl (u, z))) = rw u ((record { parent = i; 
 old_report A B b r o l i n m e (inr (inr (u, z, y, x))) = rw u ((grind arith, grind arith), refl)
 
 -- m: the marks afterwards, the same at y
-pub over_decide : {x y w : ℕ} {A B : View} {p q : List Message} {r : Outgoing} (k : ℕ) (m : ℕ → Mark) → m y ≡ A.held.mark y → Sane y A → Sane x B → (k ≡ y → ⊥) → A.held.parent ≡ Some y → (A.held.status ≡ Find → ⊥) → lighter A.held.best_weight r ≡ true → Mode x y w A B p (Report r ∷ q) →
+pub over_decide : {x y w : ℕ} {A B : View} {p q : List Message} {r : Option ℕ} (k : ℕ) (m : ℕ → Mark) → m y ≡ A.held.mark y → Sane y A → Sane x B → (k ≡ y → ⊥) → A.held.parent ≡ Some y → (A.held.status ≡ Find → ⊥) → lighter A.held.best_weight r ≡ true → Mode x y w A B p (Report r ∷ q) →
     Mode x y w (acted (decide x k) (alike A.held A.held m) A B) (follow (decide x k) A B B) p q
 over_decide {x} {y} {w} {A} {B} {p} {q} {r} k m mm sa sb d i st le (free v) = absurd (grind arith)
 over_decide {x} {y} {w} {A} {B} {p} {q} {r} k m mm sa sb d i st le (offered v) = absurd (grind arith)
@@ -76,7 +74,7 @@ over_change {x} {y} {w} {A} {B} {p} {q} k m mm sa sb same d (above v) = absurd (
 over_change {x} {y} {w} {A} {B} {p} {q} k m mm sa sb same d (below v) = absurd (grind arith)
 
 -- over the best edge, which is a branch
-pub pass_decide : {x k w : ℕ} {A B : View} {p q : List Message} (j : ℕ) (J : View) → Sane k A → Sane x B → (A.own.label ≡ B.own.label → A.fragment ≡ B.fragment) → Best x k w A B → A.own.up ≡ Some j → A.held.parent ≡ Some j → A.own.changed ≡ false → A.held.level ≡ A.fragment.level → A.held.best ≡ Some k → (A.held.status ≡ Find → ⊥) → (A.held.best_weight ≡ Nothing → ⊥) → A.held.mark k ≡ Branch → A.own.in_search ≡ true →
+pub pass_decide : {x k w : ℕ} {A B : View} {p q : List Message} (j : ℕ) (J : View) → Sane k A → Sane x B → (A.own.label ≡ B.own.label → A.fragment ≡ B.fragment) → Best x k w A B → A.own.up ≡ Some j → A.held.parent ≡ Some j → A.own.changed ≡ false → A.held.level ≡ A.fragment.level → A.held.best ≡ Some k → (A.held.status ≡ Find → ⊥) → (A.held.best_weight ≡ None → ⊥) → A.held.mark k ≡ Branch → A.own.in_search ≡ true →
     Mode x k w A B p q → Mode x k w (acted (decide x k) A.held A J) (follow (decide x k) A J B) (p ++ (Change ∷ [])) q
 pass_decide {x} {k} {w} {A} {B} {p} {q} j J sa sb same b up i ch cu be st fi l sr (free v) = absurd (grind arith)
 pass_decide {x} {k} {w} {A} {B} {p} {q} j J sa sb same b up i ch cu be st fi l sr (offered v) = absurd (grind arith)
@@ -129,7 +127,7 @@ beside_decide {x} {z} {w} {A} {B} {p} {q} k j m J mm same up d e (above v) = abo
 beside_decide {x} {z} {w} {A} {B} {p} {q} k j m J mm same up d e (below v) = absurd (grind arith)
 
 -- over the best edge, which is a branch
-pub pass_change : {x k w : ℕ} {A B : View} {p q : List Message} (j : ℕ) (J : View) → Sane k A → Sane x B → (A.own.label ≡ B.own.label → A.fragment ≡ B.fragment) → Best x k w A B → A.own.up ≡ Some j → A.held.parent ≡ Some j → A.own.changed ≡ false → A.held.level ≡ A.fragment.level → A.held.best ≡ Some k → (A.held.status ≡ Find → ⊥) → (A.held.best_weight ≡ Nothing → ⊥) → A.held.mark k ≡ Branch → A.own.in_search ≡ true → A.fragment.least ≡ decided A.held.best_weight →
+pub pass_change : {x k w : ℕ} {A B : View} {p q : List Message} (j : ℕ) (J : View) → Sane k A → Sane x B → (A.own.label ≡ B.own.label → A.fragment ≡ B.fragment) → Best x k w A B → A.own.up ≡ Some j → A.held.parent ≡ Some j → A.own.changed ≡ false → A.held.level ≡ A.fragment.level → A.held.best ≡ Some k → (A.held.status ≡ Find → ⊥) → (A.held.best_weight ≡ None → ⊥) → A.held.mark k ≡ Branch → A.own.in_search ≡ true → A.fragment.least ≡ decided A.held.best_weight →
     Mode x k w A B p q → Mode x k w (acted (change x k) A.held A J) (follow (change x k) A J B) (p ++ (Change ∷ [])) q
 pass_change {x} {k} {w} {A} {B} {p} {q} j J sa sb same b up i ch cu be st fi l sr lf (free v) = absurd (grind arith)
 pass_change {x} {k} {w} {A} {B} {p} {q} j J sa sb same b up i ch cu be st fi l sr lf (offered v) = absurd (grind arith)
@@ -181,7 +179,7 @@ beside_change {x} {z} {w} {A} {B} {p} {q} k j m J mm same up d e (told v) = absu
 beside_change {x} {z} {w} {A} {B} {p} {q} k j m J mm same up d e (above v) = above (record { mark_a = grind arith; mark_b = grind arith; same = grind arith; up_a = λ u. grind arith; up_b = grind arith; down = v.down; back = grind arith; asked = λ u h. grind arith; finds = grind arith; spent = inr (inr refl); rank = grind arith; alike = grind arith; calmer = λ u. grind arith; heard = λ u h z. grind arith })
 beside_change {x} {z} {w} {A} {B} {p} {q} k j m J mm same up d e (below v) = absurd (grind arith)
 
-pub over_end : {x y w : ℕ} {A B : View} {p q : List Message} {r : Outgoing} → Sane y A → Sane x B → A.held.parent ≡ Some y → (A.held.status ≡ Find → ⊥) → A.held.best_weight ≡ Nothing → r ≡ Nothing → Mode x y w A B p (Report r ∷ q) →
+pub over_end : {x y w : ℕ} {A B : View} {p q : List Message} {r : Option ℕ} → Sane y A → Sane x B → A.held.parent ≡ Some y → (A.held.status ≡ Find → ⊥) → A.held.best_weight ≡ None → r ≡ None → Mode x y w A B p (Report r ∷ q) →
     Mode x y w (acted end (halting A.held) A B) (follow end A B B) p q
 over_end {x} {y} {w} {A} {B} {p} {q} {r} sa sb i st e f (free v) = absurd (grind arith)
 over_end {x} {y} {w} {A} {B} {p} {q} {r} sa sb i st e f (offered v) = absurd (grind arith)
@@ -198,7 +196,7 @@ over_end {x} {y} {w} {A} {B} {p} {q} {r} sa sb i st e f (told v) = absurd (grind
 over_end {x} {y} {w} {A} {B} {p} {q} {r} sa sb i st e f (above v) = absurd (grind arith)
 over_end {x} {y} {w} {A} {B} {p} {q} {r} sa sb i st e f (below v) = absurd (grind arith)
 
-pub over_rest : {x y w : ℕ} {A B : View} {p q : List Message} {r : Outgoing} → Sane y A → Sane x B → A.held.parent ≡ Some y → (A.held.status ≡ Find → ⊥) → lighter A.held.best_weight r ≡ false → Mode x y w A B p (Report r ∷ q) →
+pub over_rest : {x y w : ℕ} {A B : View} {p q : List Message} {r : Option ℕ} → Sane y A → Sane x B → A.held.parent ≡ Some y → (A.held.status ≡ Find → ⊥) → lighter A.held.best_weight r ≡ false → Mode x y w A B p (Report r ∷ q) →
     Mode x y w A B p q
 over_rest {x} {y} {w} {A} {B} {p} {q} {r} sa sb i st le (free v) = absurd (grind arith)
 over_rest {x} {y} {w} {A} {B} {p} {q} {r} sa sb i st le (offered v) = absurd (grind arith)

@@ -1,6 +1,5 @@
 -- All that never stuck is shown from, out of the invariants.
-use Rattle.std.proofs.Common.{◌≡◌, ℕ, ap, ◌∙◌, inl, inr, arith}
-use Rattle.message.specs.declared.messages.Outgoing.{Outgoing}
+use Rattle.std.proofs.Common.{◌≡◌, ℕ, ap, ◌∙◌, inl, inr, arith, Option}
 use Rattle.graph.specs.Graph.{Graph, Edge}
 use Rattle.protocol.proofs.Edges.{Edges}
 use Rattle.protocol.proofs.Frame.{Lifted}
@@ -10,7 +9,7 @@ use Rattle.protocol.proofs.Mode.{Sane}
 use Rattle.protocol.proofs.Stuck.{Announced, Announces, Grounds}
 use Rattle.protocol.proofs.Token.{Token, Tokens, token_is}
 
-not_undecided : {l : Least} {v : Outgoing} → l ≡ decided v → l ≡ undecided → ⊥
+not_undecided : {l : Least} {v : Option ℕ} → l ≡ decided v → l ≡ undecided → ⊥
 not_undecided a b = grind arith
 
 -- a fragment that has its token has announced what it decided

@@ -3,7 +3,6 @@ use Rattle.std.proofs.Common.{◌≡◌, ℕ, zero, suc, ◌+◌, ◌<◌, Bool,
 use Rattle.std.proofs.lemmas.Bool.Decides.{eqb_tells}
 use Rattle.message.specs.declared.messages.Message.{Message}
 use Rattle.message.specs.declared.messages.Message.TheVariants.{Test, Accept, Reject, Report}
-use Rattle.message.specs.declared.messages.Outgoing.TheVariants.{Nothing, Weight}
 use Rattle.node.specs.declared.state.Status.{Status}
 use Rattle.node.specs.declared.state.Status.TheVariants.{Sleeping, Find}
 use Rattle.node.specs.Rules.{is_find}
@@ -65,14 +64,14 @@ still_waited {t} {i} {y} {w} {A} {B} {p = p} {q} k1 aw ft (Absorbs {l} c1) st0 v
 still_waited {t} {i} {y} {w} {A} {B} {p = p} {q} k1 aw ft (Merges {l} c1 c2) st0 v = absurd v.down
 still_waited {t} {i} {y} {w} {A} {B} {p = p} {q} k1 aw ft (Begins {l} {f} {s} c1) st0 v = let cl = chain_low B.held.level B.held.name B.held.status l f q v.down.2 in let e0 : p ≡ [] = grind arith in rw (onward_self A.held y l f s t.count [], e0) (grind arith)
 still_waited {t} {i} {y} {w} {A} {B} {p = p} {q} k1 aw ft (Searches-ask {l} {f} k c1) st0 v = let cl = chain_low B.held.level B.held.name B.held.status l f q v.down.2 in let e0 : p ≡ [] = grind arith in rw (onward_self A.held y l f phase.Find t.count (one k (Test l f)), test_none y k l f, e0) (grind arith)
-still_waited {t} {i} {y} {w} {A} {B} {p = p} {q} k1 aw ft (Searches-report {l} {f} c1 c2 c3) st0 v = let cl = chain_low B.held.level B.held.name B.held.status l f q v.down.2 in let e0 : p ≡ [] = grind arith in rw (onward_self A.held y l f phase.Find t.count (one y (Report Nothing)), to_self y (Report Nothing), e0) (grind arith)
+still_waited {t} {i} {y} {w} {A} {B} {p = p} {q} k1 aw ft (Searches-report {l} {f} c1 c2 c3) st0 v = let cl = chain_low B.held.level B.held.name B.held.status l f q v.down.2 in let e0 : p ≡ [] = grind arith in rw (onward_self A.held y l f phase.Find t.count (one y (Report None)), to_self y (Report None), e0) (grind arith)
 still_waited {t} {i} {y} {w} {A} {B} {p = p} {q} k1 aw ft (Searches-wait {l} {f} c1 c2) st0 v = let cl = chain_low B.held.level B.held.name B.held.status l f q v.down.2 in let e0 : p ≡ [] = grind arith in rw (onward_self A.held y l f phase.Find t.count [], e0) (grind arith)
 still_waited {t} {i} {y} {w} {A} {B} {p = p} {q} k1 aw ft (Accepts {l} {f} c1 c2) st0 v = rw (to_self y Accept, append-nil) (grind arith)
 still_waited {t} {i} {y} {w} {A} {B} {p = p} {q} k1 aw ft (Rejects {l} {f} c1 c2 c3) st0 v = rw (to_self y Reject, append-nil) (grind arith)
 still_waited {t} {i} {y} {w} {A} {B} {p = p} {q} k1 aw ft (Crosses-ask {l} {f} k c1 c2 c3 c4) st0 v = rw (test_none y k A.held.level A.held.name, append-nil) (grind arith)
 still_waited {t} {i} {y} {w} {A} {B} {p = p} {q} k1 aw ft (Crosses-report {l} {f} c1 c2 c3 c4 c5 c6) st0 v = let a = k1.asks in let st : A.held.status ≡ Find = grind arith in let low = down_low y w B.held.level B.held.name B.held.status A.held A.own.reported q v.down in let n1 = k1.mine in let i1 : A.held.parent ≡ Some y = grind arith in let cu : busy q ≡ false = notbusy (busy q) (λ u. grind arith) in let o : out_to y (send_to A.held.parent (Report A.held.best_weight)) ≡ Report A.held.best_weight ∷ [] = rw i1 (to_self y (Report A.held.best_weight)) in rw o (let fm = full_more p (Report A.held.best_weight) in grind arith)
 still_waited {t} {i} {y} {w} {A} {B} {p = p} {q} k1 aw ft (Crosses-wait {l} {f} c1 c2 c3 c4 c5) st0 v = rw append-nil (grind arith)
-still_waited {t} {i} {y} {w} {A} {B} {p = p} {q} k1 aw ft (Accepted-report c1 c2) st0 v = let st : A.held.status ≡ Find = ft in let low = down_low y w B.held.level B.held.name B.held.status A.held A.own.reported q v.down in let n1 = k1.mine in let i1 : A.held.parent ≡ Some y = grind arith in let cu : busy q ≡ false = notbusy (busy q) (λ u. grind arith) in let o : out_to y (send_to A.held.parent (Report (bettering y (Weight (t.weight i y)) (testing_now None A.held)).best_weight)) ≡ Report (bettering y (Weight (t.weight i y)) (testing_now None A.held)).best_weight ∷ [] = rw i1 (to_self y (Report (bettering y (Weight (t.weight i y)) (testing_now None A.held)).best_weight)) in rw o (let fm = full_more p (Report (bettering y (Weight (t.weight i y)) (testing_now None A.held)).best_weight) in grind arith)
+still_waited {t} {i} {y} {w} {A} {B} {p = p} {q} k1 aw ft (Accepted-report c1 c2) st0 v = let st : A.held.status ≡ Find = ft in let low = down_low y w B.held.level B.held.name B.held.status A.held A.own.reported q v.down in let n1 = k1.mine in let i1 : A.held.parent ≡ Some y = grind arith in let cu : busy q ≡ false = notbusy (busy q) (λ u. grind arith) in let o : out_to y (send_to A.held.parent (Report (bettering y (Some (t.weight i y)) (testing_now None A.held)).best_weight)) ≡ Report (bettering y (Some (t.weight i y)) (testing_now None A.held)).best_weight ∷ [] = rw i1 (to_self y (Report (bettering y (Some (t.weight i y)) (testing_now None A.held)).best_weight)) in rw o (let fm = full_more p (Report (bettering y (Some (t.weight i y)) (testing_now None A.held)).best_weight) in grind arith)
 still_waited {t} {i} {y} {w} {A} {B} {p = p} {q} k1 aw ft (Accepted-wait c1) st0 v = rw append-nil (grind arith)
 still_waited {t} {i} {y} {w} {A} {B} {p = p} {q} k1 aw ft (Rejected-ask k c1) st0 v = rw (test_none y k A.held.level A.held.name, append-nil) (grind arith)
 still_waited {t} {i} {y} {w} {A} {B} {p = p} {q} k1 aw ft (Rejected-report c1 c2 c3) st0 v = let st : A.held.status ≡ Find = ft.0 in let low = down_low y w B.held.level B.held.name B.held.status A.held A.own.reported q v.down in let n1 = k1.mine in let i1 : A.held.parent ≡ Some y = grind arith in let cu : busy q ≡ false = notbusy (busy q) (λ u. grind arith) in let o : out_to y (send_to A.held.parent (Report A.held.best_weight)) ≡ Report A.held.best_weight ∷ [] = rw i1 (to_self y (Report A.held.best_weight)) in rw o (let fm = full_more p (Report A.held.best_weight) in grind arith)

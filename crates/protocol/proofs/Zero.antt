@@ -3,9 +3,8 @@ use Rattle.std.proofs.Common.{◌≡◌, ℕ, ◌<◌, ◌≤◌, true, false, e
 use Rattle.std.proofs.lemmas.Bool.Decides.{eqb_tells}
 use Rattle.message.specs.declared.messages.Message.{Message}
 use Rattle.message.specs.declared.messages.Message.TheVariants.{Connect, Initiate, Test, Accept, Reject, Report, Change}
-use Rattle.message.specs.declared.messages.Outgoing.TheVariants.{Nothing}
 use Rattle.node.specs.declared.state.Status.TheVariants.{Sleeping, Find}
-use Rattle.node.specs.declared.state.Mark.TheVariants.{Basic, Branch}
+use Rattle.graph.specs.declared.mark.Mark.TheVariants.{Basic, Branch}
 use Rattle.graph.specs.Graph.{Graph, Edge, Weights}
 use Rattle.protocol.proofs.Asked.{talk_asked}
 use Rattle.protocol.proofs.Asleep.{asleep, Alones, view_off}
@@ -32,7 +31,7 @@ pub record Zero (t : Graph) (i : ℕ) (A : View) : Type 0 where
   pub only : (y : ℕ) → (y ≡ to → ⊥) → A.held.mark y ≡ Basic
   pub parent : A.held.parent ≡ None
   pub best : A.held.best ≡ None
-  pub long : A.held.best_weight ≡ Nothing
+  pub long : A.held.best_weight ≡ None
   pub changed : A.own.changed ≡ true
 
 -- every awake node of level 0 that has an edge

@@ -5,7 +5,7 @@ use Rattle.message.specs.declared.messages.Message.{Message}
 use Rattle.message.specs.declared.messages.Message.TheVariants.{Connect}
 use Rattle.node.specs.declared.state.Node.{Node}
 use Rattle.node.specs.declared.state.Taking.TheVariants.{Deferred, Refused}
-use Rattle.node.specs.declared.state.Mark.TheVariants.{Basic, Branch, Rejected}
+use Rattle.graph.specs.declared.mark.Mark.TheVariants.{Basic, Branch, Rejected}
 use Rattle.node.specs.Rules.{is_sleeping, mark_of, takes}
 use Rattle.graph.specs.Graph.{Graph, Edge, Joined, Weights, Belongs}
 use Rattle.protocol.specs.Net.{Near, Placed, neighbour, Net, Reach, Run}

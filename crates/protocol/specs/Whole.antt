@@ -1,6 +1,6 @@
 -- The same where all nodes can be joined, as every valley file has it: of the whole graph.
 use Rattle.std.specs.Prelude.{◌≡◌, ℕ, ◌^◌, ◌<◌, ◌≤◌, true, false, [], length, ◌≢◌}
-use Rattle.node.specs.declared.state.Mark.TheVariants.{Basic, Branch}
+use Rattle.graph.specs.declared.mark.Mark.TheVariants.{Basic, Branch}
 use Rattle.node.specs.Rules.{is_sleeping, mark_of}
 use Rattle.graph.specs.Graph.{Graph, Weights, Belongs, Connected}
 use Rattle.protocol.specs.Net.{Near, Placed, neighbour, Net, Step, Reach, Run}

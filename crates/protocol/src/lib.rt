@@ -6,120 +6,86 @@ ghost use Rattle.protocol.specs.Runs.{EveryRunEnds, FewMoves, Ends};
 ghost use Rattle.protocol.specs.Whole.{WholeMain, WholeRests, WholeLevels, WholeEnds, WholeNeverStuck};
 
 // A branch belongs to the least net, and a rejected edge does not, at every moment.
-pub fn always_right() -> u8
+pub fn always_right()
     ensures { AlwaysRight }
-{
-    0
-}
+{}
 
 // When some node has halted, just the edges that belong are branches, of all nodes that can be joined with it.
-pub fn main_theorem() -> u8
+pub fn main_theorem()
     ensures { Main }
-{
-    0
-}
+{}
 
 // And from then on no mark of these nodes changes.
-pub fn rests() -> u8
+pub fn rests()
     ensures { Rests }
-{
-    0
-}
+{}
 
 // A node's level is low: two to its power is at most the number of nodes that it can be joined with.
-pub fn levels_low() -> u8
+pub fn levels_low()
     ensures { LevelsLow }
-{
-    0
-}
+{}
 
 // The messages ever sent are at most five for each node and level, and two for each edge.
-pub fn few_messages() -> u8
+pub fn few_messages()
     ensures { FewMessages }
-{
-    0
-}
+{}
 
 // Every queue is short: eleven messages at most where there are 256 nodes.
-pub fn short_queues() -> u8
+pub fn short_queues()
     ensures { ShortQueues }
-{
-    0
-}
+{}
 
 // No message is ever refused, in a graph of at most 256 nodes.
-pub fn no_stray() -> u8
+pub fn no_stray()
     ensures { NoStray }
-{
-    0
-}
+{}
 
 // Nor does a connect come over an edge that a node has rejected.
-pub fn no_late_connect() -> u8
+pub fn no_late_connect()
     ensures { NoLateConnect }
-{
-    0
-}
+{}
 
 // Where nobody sleeps and no message can be taken some node has halted.
-pub fn never_stuck() -> u8
+pub fn never_stuck()
     ensures { NeverStuck }
-{
-    0
-}
+{}
 
 // Every run ends: each waking and each taking leaves less to do.
-pub fn every_run_ends() -> u8
+pub fn every_run_ends()
     ensures { EveryRunEnds }
-{
-    0
-}
+{}
 
 // From the start no run has more wakings and takings than messages may be sent and nodes may wake.
-pub fn few_moves() -> u8
+pub fn few_moves()
     ensures { FewMoves }
-{
-    0
-}
+{}
 
 // From every net that can be reached some run leads to the halting of a node.
-pub fn ends() -> u8
+pub fn ends()
     ensures { Ends }
-{
-    0
-}
+{}
 
 // The end, where all nodes can be joined.
-pub fn whole_main() -> u8
+pub fn whole_main()
     ensures { WholeMain }
-{
-    0
-}
+{}
 
 // Rest, where all nodes can be joined.
-pub fn whole_rests() -> u8
+pub fn whole_rests()
     ensures { WholeRests }
-{
-    0
-}
+{}
 
 // Levels, by the number of all nodes.
-pub fn whole_levels() -> u8
+pub fn whole_levels()
     ensures { WholeLevels }
-{
-    0
-}
+{}
 
 // Some run leads to a node that has halted.
-pub fn whole_ends() -> u8
+pub fn whole_ends()
     ensures { WholeEnds }
-{
-    0
-}
+{}
 
 // Where nothing is under way and nobody sleeps some node has halted.
-pub fn whole_never_stuck() -> u8
+pub fn whole_never_stuck()
     ensures { WholeNeverStuck }
-{
-    0
-}
+{}

@@ -1,4 +1,3 @@
-pub mod Passed
 pub mod Links
 pub mod Given
 pub mod Firsts

@@ -1,6 +1,7 @@
 -- Links as the code holds them, and as the definitions see them.
-use Rattle.std.proofs.Common.{◌≡◌, ℕ, ◌+◌, ◌<◌, ◌≤◌, List, [], ◌∷◌, ◌++◌, map, length, get_or, take, set, Some, sym, ap, ◌∙◌, subst, arith}
-use Rattle.std.proofs.lemmas.List.{get_or-map, get_or_past, length-map, map-set, map_push, map_more, take_all, set_past}
+use Rattle.std.proofs.Common.{◌≡◌, ℕ, ◌<◌, ◌≤◌, List, [], ◌∷◌, map, length, get_or, set, Some, sym, refl, ap, ◌∙◌, subst, arith}
+use Rattle.std.proofs.lemmas.List.{get_or-map, get_or_past, length-map, map-set, set_past}
+use Rattle.std.specs.List.{AllZip}
 use Rattle.link.specs.declared.ends.Link.{Link}
 use Rattle.link.specs.Ends.{End, end_of}
 use Rattle.station.specs.State.{no_link, link_in, passed, place_of}
@@ -26,15 +27,12 @@ link_changed ls k l x f h e c =
 pub link_unchanged : (ls : List Link) (k : ℕ) (e : End) → length ls ≤ k → map end_of ls ≡ set (map end_of ls) k e
 link_unchanged ls k e h = sym (set_past (map end_of ls) k e (let z = length-map ls end_of in omega arith))
 
--- one element more of a list that is made from another
-pub made_more : {X Y Z : Type 0} (f : X → Z) (g : Y → Z) (done pushed : List X) (xs ys : List Y) (i : ℕ) (x : X) (y : Y) →
-    xs ≡ ys → i < length xs → y ≡ get_or xs i y → f x ≡ g y → map f done ≡ map g (take i ys) → pushed ≡ done ++ x ∷ [] → map f pushed ≡ map g (take (i + 1) ys)
-made_more f g done pushed xs ys i x y s h e c ih p =
-    ap (map f) p ∙ (map_push f done x ∙ (ap (λ v. v ++ f x ∷ []) (ih ∙ ap (λ v. map g (take i v)) (sym s)) ∙
-    (ap (λ v. map g (take i xs) ++ v ∷ []) (c ∙ ap g e) ∙ (sym (map_more g xs i y h) ∙ ap (λ v. map g (take (i + 1) v)) s))))
-
-pub made_all : {X Y Z : Type 0} (f : X → Z) (g : Y → Z) (done : List X) (ys : List Y) (i : ℕ) → length ys ≤ i → map f done ≡ map g (take i ys) → map f done ≡ map g ys
-made_all f g done ys i h e = e ∙ ap (map g) (take_all i ys h)
+-- links that were copied one by one are the same ends
+pub ends_copied : (ls ms : List Link) → AllZip (λ l m. end_of m ≡ end_of l) ls ms → map end_of ms ≡ map end_of ls
+ends_copied [] [] a = refl
+ends_copied [] (m ∷ ms) a = absurd a
+ends_copied (l ∷ ls) [] a = absurd a
+ends_copied (l ∷ ls) (m ∷ ms) a = ap (λ e. e ∷ map end_of ms) a.0 ∙ ap (λ es. end_of l ∷ es) (ends_copied ls ms a.1)
 
 -- the place of a neighbour is the first link that leads there
 pub place_is : (es : List End) (j k : ℕ) → place_of es j ≡ Some k → (passed es j < length es) × (passed es j ≡ k)

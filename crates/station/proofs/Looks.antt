@@ -1,5 +1,6 @@
 -- One look, some looks, a round: what each is by the one before.
-use Rattle.std.proofs.Common.{◌≡◌, ℕ, ◌+◌, ◌<◌, ◌≤◌, length, get_or, Some, None, vec_items, sym, refl, ap, ◌∙◌, add-one}
+use Rattle.std.proofs.Common.{◌≡◌, ℕ, ◌+◌, ◌<◌, ◌≤◌, Bool, ◌||◌, length, get_or, Some, None, vec_items, sym, refl, ap, ◌∙◌, add-one}
+use Rattle.std.proofs.Math.Bool.{or_comm, or_assoc}
 use Rattle.message.specs.declared.messages.Message.{Message}
 use Rattle.node.specs.declared.state.Taking.{Taking}
 use Rattle.node.specs.Rules.{takes}
@@ -34,20 +35,24 @@ pub round_more : (n : ℕ) (p : Progress) → round (n + 1) p ≡ looks n (waiti
 unfolding round
 round_more n p = rw add-one
 
--- The same of a station at work, as the code holds it.
-module _ (w : Work) (k : ℕ) where
-  pub seen_past : length (vec_items w.station.links) ≤ k → look k (progress_of w) ≡ progress_of w
-  seen_past h = look_nothing k (progress_of w) (ap (λ e. head_of e.inbox) (link_past (vec_items w.station.links) k h))
+-- The same of a station at work, as the code holds it, in a round that took something or not.
+module _ (w : Work) (b : Bool) (k : ℕ) where
+  pub seen_past : length (vec_items w.station.links) ≤ k → look k (progress_of w b) ≡ progress_of w b
+  seen_past h = look_nothing k (progress_of w b) (ap (λ e. head_of e.inbox) (link_past (vec_items w.station.links) k h))
 
-  pub waits_past : length (vec_items w.station.links) ≤ k → waiting_at k (progress_of w) ≡ 0
+  pub waits_past : length (vec_items w.station.links) ≤ k → waiting_at k (progress_of w b) ≡ 0
   waits_past h = ap (λ e. length e.inbox) (link_past (vec_items w.station.links) k h)
 
   module _ (x : Link) (h : k < length (vec_items w.station.links)) (e : x ≡ get_or (vec_items w.station.links) k x) where
-    pub waits_here : waiting_at k (progress_of w) ≡ length (end_of x).inbox
+    pub waits_here : waiting_at k (progress_of w b) ≡ length (end_of x).inbox
     waits_here = ap (λ v. length v.inbox) (link_read (vec_items w.station.links) k x h e)
 
-    pub seen_nothing : None ≡ head_of (end_of x).inbox → look k (progress_of w) ≡ progress_of w
-    seen_nothing o = look_nothing k (progress_of w) (ap (λ v. head_of v.inbox) (link_read (vec_items w.station.links) k x h e) ∙ sym o)
+    pub seen_nothing : None ≡ head_of (end_of x).inbox → look k (progress_of w b) ≡ progress_of w b
+    seen_nothing o = look_nothing k (progress_of w b) (ap (λ v. head_of v.inbox) (link_read (vec_items w.station.links) k x h e) ∙ sym o)
 
-    pub seen_head : (m : Message) (r : Taking) → Some m ≡ head_of (end_of x).inbox → r ≡ takes k m w.station.node → look k (progress_of w) ≡ look_by k r (progress_of w)
-    seen_head m r o t = look_head k (progress_of w) m r (ap (λ v. head_of v.inbox) (link_read (vec_items w.station.links) k x h e) ∙ sym o) (sym t)
+    pub seen_head : (m : Message) (r : Taking) → Some m ≡ head_of (end_of x).inbox → r ≡ takes k m w.station.node → look k (progress_of w b) ≡ look_by k r (progress_of w b)
+    seen_head m r o t = look_head k (progress_of w b) m r (ap (λ v. head_of v.inbox) (link_read (vec_items w.station.links) k x h e) ∙ sym o) (sym t)
+
+-- whether this turn took something, or those before
+pub took_more : (before took more : Bool) → ((took || more) || before) ≡ (more || (took || before))
+took_more before took more = ap (λ b. b || before) (or_comm took more) ∙ or_assoc more took before

@@ -118,6 +118,10 @@ rounds_same (suc n) zero p h g = absurd (omega arith)
 rounds_same (suc n) (suc m) p h g =
     rounds_step n p ∙ (same_on (lap p).took n m (lap p) (λ e. let f = lap_fewer p e in rounds_same n m (lap p) (omega arith) (omega arith)) ∙ sym (rounds_step m p))
 
+-- whether something was taken before does not matter
+pub works_afresh : (p : Progress) → works (afresh p) ≡ works p
+works_afresh p = rounds_step (waiting p.state) (afresh p) ∙ sym (rounds_step (waiting p.state) p)
+
 pub works_on : (p : Progress) → (lap p).took ≡ true → works (lap p) ≡ works p
 works_on p e =
     let f = lap_fewer p e in

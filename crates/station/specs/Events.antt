@@ -73,6 +73,12 @@ abbrev pub decoded : ℕ → Result Packet Refusal → State → Did
 decoded j (Ok p) s = arrived p (place_of s.links j) s
 decoded j (Err r) s = turned_away r s
 
+-- what was read of bytes that came, and the place of the link over which it came: turned away for its form, or without such a link
+abbrev pub over_link : {X : Type 0} → Result X Refusal → Option ℕ → Result (ℕ × X) Refusal
+over_link (Err r) o = Err r
+over_link (Ok x) None = Err NoSuchEdge
+over_link (Ok x) (Some k) = Ok (k, x)
+
 -- A PACKET from neighbour j: refused by 1 for its form, by 4 without such a link, by 2 if its number is not the next.
 abbrev pub on_packet : ℕ → List ℕ → State → Did
 on_packet j bytes s = decoded j (packet_of bytes) s

@@ -1,30 +1,24 @@
 -- A station as it is made, and which neighbours it can have.
 use Rattle.std.specs.Prelude.{◌≡◌, ℕ, zero, suc, Bool, cond, ◌||◌, ◌⊎◌, List, map, length, take, Some, None, Ok, Err, Option, Result, ◌==◌, nat_le, nat_lt, slice_index_or}
+use Rattle.std.specs.List.{list_any}
 use Rattle.graph.specs.declared.edge.Neighbour.{Neighbour}
 use Rattle.graph.specs.declared.fault.Fault.{Fault}
 use Rattle.graph.specs.declared.fault.Fault.TheVariants.{NodeOutOfRange, OwnNode, WeightOutOfRange, EdgeTwice, WeightTwice, TooManyEdges, NoMemory}
 use Rattle.node.specs.Rules.{fresh}
 use Rattle.link.specs.Ends.{new_end}
 use Rattle.station.specs.declared.state.Station.{Station}
-use Rattle.station.specs.State.{State, state_of, passed_by}
+use Rattle.station.specs.State.{State, state_of}
 
 -- a sleeping node, and links over which nothing was sent
 abbrev pub fresh_state : ℕ → List Neighbour → State
 fresh_state i ns = record { number = i; node = fresh (map (λ n. n.weight) ns); links = map (λ n. new_end n.node) ns }
 
--- how many at the front are other nodes, and how many edges to them have another weight
-abbrev pub others : List Neighbour → ℕ → ℕ
-others ns j = passed_by (λ n. n.node) ns j
-
-abbrev pub other_weights : List Neighbour → ℕ → ℕ
-other_weights ns w = passed_by (λ n. n.weight) ns w
-
 -- is this node among them, or this weight among those of the edges to them
 abbrev pub is_among : List Neighbour → ℕ → Bool
-is_among ns j = nat_lt (others ns j) (length ns)
+is_among ns j = list_any (λ n. n.node == j) ns
 
 abbrev pub weighs_among : List Neighbour → ℕ → Bool
-weighs_among ns w = nat_lt (other_weights ns w) (length ns)
+weighs_among ns w = list_any (λ n. n.weight == w) ns
 
 -- why a neighbour is refused behind others, if it is: the first of these that applies
 abbrev pub neighbour_fault : ℕ → List Neighbour → Neighbour → Option Fault

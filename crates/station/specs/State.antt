@@ -1,6 +1,6 @@
 -- What a station holds: its number, the node, and one end of a link for each of the node's edges.
-use Rattle.std.specs.Prelude.{ℕ, zero, suc, cond, not, List, map, length, Some, None, vec_items, Option, ◌==◌, nat_lt, slice_index_or, slice_set}
-use Rattle.std.specs.List.{prefix_len}
+use Rattle.std.specs.Prelude.{ℕ, zero, suc, List, map, Some, None, vec_items, Option, ◌==◌, slice_index_or, slice_set}
+use Rattle.std.specs.List.{position, position_or_len}
 use Rattle.message.specs.declared.messages.Message.{Message}
 use Rattle.node.specs.declared.state.Node.{Node}
 use Rattle.node.specs.declared.state.Turn.{Turn}
@@ -32,17 +32,13 @@ link_at s k = link_in s.links k
 abbrev pub with_link : ℕ → End → State → State
 with_link k e s = record { number = s.number; node = s.node; links = slice_set s.links k e }
 
--- how many at the front of a list have another number
-abbrev pub passed_by : {X : Type 0} → (X → ℕ) → List X → ℕ → ℕ
-passed_by q xs j = prefix_len (λ x. not (q x == j)) xs
-
 -- how many links at the front lead elsewhere
 abbrev pub passed : List End → ℕ → ℕ
-passed links j = passed_by (λ e. e.neighbour) links j
+passed links j = position_or_len (λ e. e.neighbour == j) links
 
 -- the place of the first link to a neighbour
 abbrev pub place_of : List End → ℕ → Option ℕ
-place_of links j = cond (nat_lt (passed links j) (length links)) (Some (passed links j)) None
+place_of links j = position (λ e. e.neighbour == j) links
 
 -- a message that is sent goes into the outbox of its place
 abbrev pub gave_at : ℕ → Option Message → List End → List End

@@ -15,8 +15,9 @@ pub record Progress : Type 0 where
   pub refusals : List Refusal
   pub took : Bool
 
-abbrev pub progress_of : Work → Progress
-progress_of w = record { state = state_of w.station; refusals = vec_items w.refusals; took = w.took }
+-- the station at work that the code holds, in a round that took something or not
+abbrev pub progress_of : Work → Bool → Progress
+progress_of w took = record { state = state_of w.station; refusals = vec_items w.refusals; took = took }
 
 -- the head is taken, deferred, or turned away, which is taken as nothing
 abbrev pub look_by : ℕ → Taking → Progress → Progress

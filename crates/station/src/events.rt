@@ -1,13 +1,13 @@
 // One event: the station before is left as it is, the one after is handed back with what it sends.
-ghost use Rattle.std.specs.Prelude.{◌≡◌, ◌<◌, ◌++◌, length, IfOk, Some, vec_len, OnOk};
+ghost use Rattle.std.specs.Prelude.{◌≡◌, ℕ, Bool, ◌<◌, ◌++◌, length, IfOk, vec_len, OnOk};
 ghost use Rattle.link.specs.Ends.{end_of};
-ghost use Rattle.station.specs.State.{state_of};
-ghost use Rattle.station.specs.Events.{did_of, oldest_to, answer_to, firsts, each, idle_in, turned_away, on_wake, arrived, on_packet, acknowledged, on_acknowledgement};
+ghost use Rattle.station.specs.State.{state_of, place_of};
+ghost use Rattle.station.specs.Events.{did_of, oldest_to, answer_to, firsts, idle_in, turned_away, on_wake, over_link, arrived, on_packet, acknowledged, on_acknowledgement};
 
 use super::outcome::{Outcome, Transmission};
 use super::state::Station;
 use super::work::{Work, worked_off};
-use link::Link;
+use link::{Link, Unreceived};
 use message::{Acknowledgement, Packet, Refusal};
 use std::alloc::{AllocError, Global};
 
@@ -35,12 +35,19 @@ fn answer(link: &Link) -> Transmission
 }
 
 impl Station {
-    // The oldest message of each link.
-    fn push_all(&self, sends: &mut Vec<Transmission>) -> Result<(), AllocError>
-        ensures { OnOk result (sends.new.items ≡ sends.old.items ++ firsts each (state_of self.now).links (length (state_of self.now).links)) }
+    // The oldest message of each link whose place is picked.
+    fn push_picked<F: Fn(usize) -> bool>(
+        &self,
+        picks: F,
+        sends: &mut Vec<Transmission>,
+    ) -> Result<(), AllocError>
+        requires { F.IsAlwaysCallable picks }
+        ensures { OnOk result ((chosen : ℕ → Bool) → ((k : ℕ) (b : Bool) → F.post picks k b → b ≡ chosen k) → sends.new.items ≡ sends.old.items ++ firsts chosen (state_of self.now).links (length (state_of self.now).links)) }
     {
-        for link in self.links.as_slice() {
-            push_oldest(sends, link)?;
+        for (place, link) in self.links.iter().enumerate() {
+            if picks(place) {
+                push_oldest(sends, link)?;
+            }
         }
         Ok(())
     }
@@ -49,19 +56,7 @@ impl Station {
     fn is_idle(&self, place: usize) -> bool
         ensures { result ≡ idle_in (state_of self.now).links place }
     {
-        place >= self.links.len() || self.links[place].is_idle()
-    }
-
-    // The first message of each link that had none to hand over before.
-    fn push_begun(&self, before: &Station, sends: &mut Vec<Transmission>) -> Result<(), AllocError>
-        ensures { OnOk result (sends.new.items ≡ sends.old.items ++ firsts (idle_in (state_of before.now).links) (state_of self.now).links (length (state_of self.now).links)) }
-    {
-        for (place, link) in self.links.iter().enumerate() {
-            if before.is_idle(place) {
-                push_oldest(sends, link)?;
-            }
-        }
-        Ok(())
+        self.links.get(place).is_none_or(|link| link.is_idle())
     }
 
     // Nothing changes.
@@ -69,7 +64,7 @@ impl Station {
         ensures { IfOk result (λ o. did_of o ≡ turned_away refusal (state_of self.now)) }
     {
         Ok(Outcome {
-            station: self.copy(heap)?,
+            station: self.clone()?,
             sends: Vec::new(heap),
             refusals: vec![in heap; refusal]?,
         })
@@ -79,10 +74,10 @@ impl Station {
     pub fn wake(&self, heap: Global) -> Result<Outcome, AllocError>
         ensures { IfOk result (λ o. did_of o ≡ on_wake (state_of self.now)) }
     {
-        let mut station = self.copy(heap)?;
+        let mut station = self.clone()?;
         station.rouse()?;
         let mut sends = Vec::new(heap);
-        station.push_all(&mut sends)?;
+        station.push_picked(|_| true, &mut sends)?;
         Ok(Outcome {
             station,
             sends,
@@ -90,47 +85,55 @@ impl Station {
         })
     }
 
+    // What was read of the bytes that came, and the place of the link over which it came.
+    fn over_link<T: Drop>(
+        &self,
+        from: usize,
+        read: Result<T, Refusal>,
+    ) -> Result<(usize, T), Refusal>
+        ensures { result ≡ over_link read (place_of (state_of self.now).links from) }
+    {
+        let it = read?;
+        let place = self.place_of(from).ok_or(Refusal::NoSuchEdge)?;
+        Ok((place, it))
+    }
+
     // A packet over the link at a place.
     fn arrive(&self, heap: Global, place: usize, packet: Packet) -> Result<Outcome, AllocError>
         requires { place < vec_len self.now.links }
         ensures { IfOk result (λ o. did_of o ≡ arrived packet (Some place) (state_of self.now)) }
     {
-        let mut station = self.copy(heap)?;
-        let refusal = station.links[place].receive(packet)?;
+        let mut station = self.clone()?;
+        let received = station.links[place].receive(packet);
         let mut sends = vec![in heap; answer(&station.links[place])]?;
-        if let Some(refusal) = refusal {
-            return Ok(Outcome {
+        match received {
+            Ok(()) => {
+                station.rouse()?;
+                let Work { station, refusals } = worked_off(heap, station)?;
+                station.push_picked(|place| self.is_idle(place), &mut sends)?;
+                Ok(Outcome {
+                    station,
+                    sends,
+                    refusals,
+                })
+            }
+            Err(Unreceived::Refused(refusal)) => Ok(Outcome {
                 station,
                 sends,
                 refusals: vec![in heap; refusal]?,
-            });
+            }),
+            Err(Unreceived::Memory(error)) => Err(error),
         }
-        station.rouse()?;
-        let Work {
-            station,
-            refusals,
-            took: _,
-        } = worked_off(heap, station)?;
-        station.push_begun(self, &mut sends)?;
-        Ok(Outcome {
-            station,
-            sends,
-            refusals,
-        })
     }
 
     // Bytes come from a neighbour as a packet.
     pub fn receive(&self, heap: Global, from: usize, bytes: &[u8]) -> Result<Outcome, AllocError>
         ensures { IfOk result (λ o. did_of o ≡ on_packet from bytes.now (state_of self.now)) }
     {
-        let packet = match Packet::decode(bytes) {
-            Ok(packet) => packet,
-            Err(refusal) => return self.turn_away(heap, refusal),
-        };
-        let Some(place) = self.place_of(from) else {
-            return self.turn_away(heap, Refusal::NoSuchEdge);
-        };
-        self.arrive(heap, place, packet)
+        match self.over_link(from, Packet::decode(bytes)) {
+            Ok((place, packet)) => self.arrive(heap, place, packet),
+            Err(refusal) => self.turn_away(heap, refusal),
+        }
     }
 
     // An acknowledgement over the link at a place.
@@ -143,8 +146,8 @@ impl Station {
         requires { place < vec_len self.now.links }
         ensures { IfOk result (λ o. did_of o ≡ acknowledged acknowledgement (Some place) (state_of self.now)) }
     {
-        let mut station = self.copy(heap)?;
-        if let Some(refusal) = station.links[place].settle(acknowledgement) {
+        let mut station = self.clone()?;
+        if let Err(refusal) = station.links[place].settle(acknowledgement) {
             return self.turn_away(heap, refusal);
         }
         let mut sends = Vec::new(heap);
@@ -165,13 +168,9 @@ impl Station {
     ) -> Result<Outcome, AllocError>
         ensures { IfOk result (λ o. did_of o ≡ on_acknowledgement from bytes.now (state_of self.now)) }
     {
-        let acknowledgement = match Acknowledgement::decode(bytes) {
-            Ok(acknowledgement) => acknowledgement,
-            Err(refusal) => return self.turn_away(heap, refusal),
-        };
-        let Some(place) = self.place_of(from) else {
-            return self.turn_away(heap, Refusal::NoSuchEdge);
-        };
-        self.settle(heap, place, acknowledgement)
+        match self.over_link(from, Acknowledgement::decode(bytes)) {
+            Ok((place, acknowledgement)) => self.settle(heap, place, acknowledgement),
+            Err(refusal) => self.turn_away(heap, refusal),
+        }
     }
 }

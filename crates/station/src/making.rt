@@ -1,7 +1,8 @@
 // A station is made from the neighbours of its node.
-ghost use Rattle.std.specs.Prelude.{◌≡◌, map, length, IfOk};
+ghost use Rattle.std.specs.Prelude.{◌≡◌, map, IfOk};
+ghost use Rattle.std.specs.Result.{result_err};
 ghost use Rattle.link.specs.Ends.{end_of, new_end};
-ghost use Rattle.station.specs.Making.{is_among, weighs_among, neighbour_fault, station_fault, Made};
+ghost use Rattle.station.specs.Making.{neighbour_fault, station_fault, Made};
 
 use super::state::Station;
 use graph::edge::Neighbour;
@@ -10,114 +11,76 @@ use link::Link;
 use node::Node;
 use std::alloc::{AllocError, Global};
 
-// Is this node one of them?
-fn is_among(neighbours: &[Neighbour], node: usize) -> bool
-    ensures { result ≡ is_among neighbours.now node }
-{
-    for neighbour in neighbours {
-        if neighbour.node == node {
-            return true;
-        }
-    }
-    false
-}
-
-// Has the edge to one of them this weight?
-fn weighs_among(neighbours: &[Neighbour], weight: u32) -> bool
-    ensures { result ≡ weighs_among neighbours.now weight }
-{
-    for neighbour in neighbours {
-        if neighbour.weight == weight {
-            return true;
-        }
-    }
-    false
-}
-
-// Why a neighbour is refused behind others, if it is.
-fn neighbour_fault(number: usize, earlier: &[Neighbour], neighbour: Neighbour) -> Option<Fault>
-    ensures { result ≡ neighbour_fault number earlier.now neighbour }
+// Can a node have this neighbour behind others?
+fn check_neighbour(number: usize, earlier: &[Neighbour], neighbour: Neighbour) -> Result<(), Fault>
+    ensures { result_err result ≡ neighbour_fault number earlier.now neighbour }
 {
     if neighbour.node >= 256 {
-        return Some(Fault::NodeOutOfRange);
+        return Err(Fault::NodeOutOfRange);
     }
     if neighbour.node == number {
-        return Some(Fault::OwnNode);
+        return Err(Fault::OwnNode);
     }
-    if neighbour.weight < 1 || neighbour.weight > 1_000_000 {
-        return Some(Fault::WeightOutOfRange);
+    if !(1..=1_000_000).contains(&neighbour.weight) {
+        return Err(Fault::WeightOutOfRange);
     }
-    if is_among(earlier, neighbour.node) {
-        return Some(Fault::EdgeTwice);
+    if earlier.iter().any(|other| other.node == neighbour.node) {
+        return Err(Fault::EdgeTwice);
     }
-    if weighs_among(earlier, neighbour.weight) {
-        return Some(Fault::WeightTwice);
+    if earlier.iter().any(|other| other.weight == neighbour.weight) {
+        return Err(Fault::WeightTwice);
     }
-    None
+    Ok(())
 }
 
-// Why no station is made, if none is.
-fn station_fault(number: usize, neighbours: &[Neighbour]) -> Option<Fault>
-    ensures { result ≡ station_fault number neighbours.now }
+// Can a station be made of these?
+fn check_station(number: usize, neighbours: &[Neighbour]) -> Result<(), Fault>
+    ensures { result_err result ≡ station_fault number neighbours.now }
 {
     if number >= 256 {
-        return Some(Fault::NodeOutOfRange);
+        return Err(Fault::NodeOutOfRange);
     }
     if neighbours.len() > 16 {
-        return Some(Fault::TooManyEdges);
+        return Err(Fault::TooManyEdges);
     }
-    for place in 0..neighbours.len() {
-        let fault = neighbour_fault(number, &neighbours[0..place], neighbours[place]);
-        if fault.is_some() {
-            return fault;
-        }
+    for (place, neighbour) in neighbours.iter().enumerate() {
+        check_neighbour(number, &neighbours[..place], *neighbour)?;
     }
-    None
+    Ok(())
 }
 
 // The weights of the edges, in order.
 fn weights_of(heap: Global, neighbours: &[Neighbour]) -> Result<Vec<u32>, AllocError>
     ensures { IfOk result (λ v. v.items ≡ map (λ n. n.weight) neighbours.now) }
 {
-    let mut weights = Vec::with_capacity(heap, neighbours.len())?;
-    for neighbour in neighbours {
-        weights.push(neighbour.weight)?;
-    }
-    Ok(weights)
+    neighbours
+        .iter()
+        .map(|neighbour| neighbour.weight)
+        .collect(heap)
 }
 
 // A link for each, over which nothing was sent.
 fn links_of(heap: Global, neighbours: &[Neighbour]) -> Result<Vec<Link>, AllocError>
     ensures { IfOk result (λ v. map end_of v.items ≡ map (λ n. new_end n.node) neighbours.now) }
 {
-    let mut links = Vec::with_capacity(heap, neighbours.len())?;
-    for neighbour in neighbours {
-        links.push(Link::new(heap, neighbour.node))?;
-    }
-    Ok(links)
+    neighbours
+        .iter()
+        .map(|neighbour| Link::new(heap, neighbour.node))
+        .collect(heap)
 }
 
 impl Station {
-    // A station that sleeps, with links to these neighbours.
+    // A station that sleeps, with links to these neighbours. Number and neighbours come in no struct, which would be made
+    // only to be taken apart.
     pub fn new(heap: Global, number: usize, neighbours: &[Neighbour]) -> Result<Station, Fault>
         ensures { Made number neighbours.now result }
     {
-        if let Some(fault) = station_fault(number, neighbours) {
-            return Err(fault);
-        }
-        let Ok(weights) = weights_of(heap, neighbours) else {
-            return Err(Fault::NoMemory);
-        };
-        let Ok(links) = links_of(heap, neighbours) else {
-            return Err(Fault::NoMemory);
-        };
-        match Node::new(&weights) {
-            Some(node) => Ok(Station {
-                number,
-                node,
-                links,
-            }),
-            None => Err(Fault::NoMemory),
-        }
+        check_station(number, neighbours)?;
+        let weights = weights_of(heap, neighbours)?;
+        Ok(Station {
+            number,
+            node: Node::new(&weights).ok_or(Fault::TooManyEdges)?,
+            links: links_of(heap, neighbours)?,
+        })
     }
 }

@@ -16,6 +16,8 @@ pub enum Transmission {
 }
 
 // The station after an event, what it sends, in order, and what it turned away.
+// No model: the box reads these fields, so clauses see them through `did_of`. No constructor: the literals name the fields,
+// and say more plainly what is sent and what is refused.
 #[derive(Drop)]
 pub struct Outcome {
     pub station: Station,

@@ -9,11 +9,8 @@ impl Station {
     pub fn place_of(&self, neighbour: usize) -> Option<usize>
         ensures { result ≡ place_of (state_of self.now).links neighbour }
     {
-        for (place, link) in self.links.iter().enumerate() {
-            if link.neighbour == neighbour {
-                return Some(place);
-            }
-        }
-        None
+        self.links
+            .iter()
+            .position(|link| link.neighbour == neighbour)
     }
 }

@@ -1,12 +1,13 @@
 // What a station holds.
-ghost use Rattle.std.specs.Prelude.{◌≡◌, IfOk};
+ghost use Rattle.std.specs.Prelude.{◌≡◌};
 ghost use Rattle.station.specs.State.{state_of};
 
 use link::Link;
 use node::Node;
-use std::alloc::{AllocError, Global};
+use std::alloc::AllocError;
 
 // Its own number, the node, and a link for each of the node's edges, in the order of the node's places.
+// No model: the page makes a station of these fields and the box reads them, so clauses see them through `state_of`.
 #[derive(Drop)]
 pub struct Station {
     pub number: usize,
@@ -14,19 +15,15 @@ pub struct Station {
     pub links: Vec<Link>,
 }
 
-impl Station {
-    // Another one that is the same.
-    pub fn copy(&self, heap: Global) -> Result<Station, AllocError>
-        ensures { IfOk result (λ s. state_of s ≡ state_of self.now) }
-    {
-        let mut links = Vec::with_capacity(heap, self.links.len())?;
-        for link in self.links.as_slice() {
-            links.push(link.copy(heap)?)?;
-        }
+// By hand, since its clause speaks of the state that the copy holds: a derived one speaks of each field.
+impl Clone for Station {
+    ghost is_clone = { λ s t. state_of t ≡ state_of s };
+
+    fn clone(&self) -> Result<Station, AllocError> {
         Ok(Station {
             number: self.number,
             node: self.node,
-            links,
+            links: self.links.clone()?,
         })
     }
 }

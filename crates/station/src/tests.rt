@@ -12,11 +12,11 @@ enum Given {
     Answer(usize, &'static [u8]),
 }
 
-// What comes, the number of the refusal or 0, and how many transmissions go out.
+// What comes, the number of the refusal if there is one, and how many transmissions go out.
 #[derive(Clone, Copy)]
 struct Row {
     given: Given,
-    refused: u8,
+    refused: Option<u8>,
     sends: usize,
 }
 
@@ -27,84 +27,84 @@ const ROWS: [Row; 15] = [
     // A damaged packet does not wake a sleeper.
     Row {
         given: Given::Packet(1, &[71, 0, 0, 0, 1, 1, 0, 0, 74]),
-        refused: 1,
+        refused: Some(1),
         sends: 0,
     },
     Row {
         given: Given::Packet(7, CONNECT),
-        refused: 4,
+        refused: Some(4),
         sends: 0,
     },
     // The first packet wakes it: an answer, and its own connect; the initiate waits behind that.
     Row {
         given: Given::Packet(1, CONNECT),
-        refused: 0,
+        refused: None,
         sends: 2,
     },
     // Doubled, and from beyond the next number.
     Row {
         given: Given::Packet(1, CONNECT),
-        refused: 2,
+        refused: Some(2),
         sends: 1,
     },
     Row {
         given: Given::Packet(1, &[71, 0, 0, 0, 3, 4, 0, 78]),
-        refused: 2,
+        refused: Some(2),
         sends: 1,
     },
     // The same packet as an answer, an answer as a packet, a number not waited for, and one where nothing waits.
     Row {
         given: Given::Answer(1, CONNECT),
-        refused: 1,
+        refused: Some(1),
         sends: 0,
     },
     Row {
         given: Given::Packet(1, &[72, 0, 0, 0, 1, 0, 73]),
-        refused: 1,
+        refused: Some(1),
         sends: 0,
     },
     Row {
         given: Given::Answer(1, &[72, 0, 0, 0, 2, 0, 74]),
-        refused: 3,
+        refused: Some(3),
         sends: 0,
     },
     Row {
         given: Given::Answer(2, &[72, 0, 0, 0, 1, 0, 73]),
-        refused: 3,
+        refused: Some(3),
         sends: 0,
     },
     Row {
         given: Given::Answer(7, &[72, 0, 0, 0, 1, 0, 73]),
-        refused: 4,
+        refused: Some(4),
         sends: 0,
     },
     // The answer that is waited for: the initiate goes out. Late, it is waited for no more.
     Row {
         given: Given::Answer(1, &[72, 0, 0, 0, 1, 0, 73]),
-        refused: 0,
+        refused: None,
         sends: 1,
     },
     Row {
         given: Given::Answer(1, &[72, 0, 0, 0, 1, 0, 73]),
-        refused: 3,
+        refused: Some(3),
         sends: 0,
     },
     // An accept without a test is taken as nothing, and told.
     Row {
         given: Given::Packet(1, &[71, 0, 0, 0, 2, 4, 0, 77]),
-        refused: 5,
+        refused: Some(5),
         sends: 1,
     },
     // Trying again sends the oldest message of each line that has one.
     Row {
         given: Given::Wake,
-        refused: 0,
+        refused: None,
         sends: 1,
     },
     // A test of a higher level is kept: only the answer goes out.
     Row {
         given: Given::Packet(2, &[71, 0, 0, 0, 1, 3, 1, 0, 0, 0, 5, 0, 81]),
-        refused: 0,
+        refused: None,
         sends: 1,
     },
 ];
@@ -114,10 +114,7 @@ fn house(heap: Global) -> Result<Station, Fail> {
         Neighbour { node: 1, weight: 5 },
         Neighbour { node: 2, weight: 9 },
     ];
-    match Station::new(heap, 0, &neighbours) {
-        Ok(station) => Ok(station),
-        Err(_) => Err(Fail::new("not made")),
-    }
+    Station::new(heap, 0, &neighbours).map_err(|_| Fail::new("not made"))
 }
 
 fn happen(heap: Global, station: &Station, given: Given) -> Result<Outcome, Fail> {
@@ -133,10 +130,7 @@ fn each_with_its_number(rt: HostRuntime) -> Result<(), Fail> {
     let mut station = house(rt.alloc())?;
     for row in ROWS.iter() {
         let outcome = happen(rt.alloc(), &station, row.given)?;
-        let refused = match outcome.refusals.first() {
-            Some(refusal) => refusal.number(),
-            None => 0,
-        };
+        let refused = outcome.refusals.first().map(|refusal| refusal.number());
         assert_eq!(rt; refused, row.refused);
         assert!(rt; outcome.refusals.len() <= 1);
         assert_eq!(rt; outcome.sends.len(), row.sends);
@@ -148,42 +142,31 @@ fn each_with_its_number(rt: HostRuntime) -> Result<(), Fail> {
     Ok(())
 }
 
-fn fault_of(heap: Global, number: usize, neighbours: &[Neighbour]) -> u8 {
-    match Station::new(heap, number, neighbours) {
-        Ok(_) => 0,
-        Err(fault) => fault.code(),
-    }
+fn fault_of(heap: Global, number: usize, neighbours: &[Neighbour]) -> Option<Fault> {
+    Station::new(heap, number, neighbours).err()
 }
 
 #[test]
 fn neighbours_that_no_house_has(rt: HostRuntime) {
     let heap = rt.alloc();
     let one = Neighbour { node: 1, weight: 5 };
-    assert_eq!(rt; fault_of(heap, 256, &[one]), Fault::NodeOutOfRange.code());
+    let far = Neighbour {
+        node: 256,
+        weight: 5,
+    };
+    let weightless = Neighbour { node: 1, weight: 0 };
+    let twice = [one, Neighbour { node: 1, weight: 6 }];
+    let as_heavy = [one, Neighbour { node: 2, weight: 5 }];
+    let out_of_range = Some(Fault::NodeOutOfRange);
+    assert_eq!(rt; fault_of(heap, 256, &[one]), out_of_range);
+    assert_eq!(rt; fault_of(heap, 0, &[far]), out_of_range);
+    assert_eq!(rt; fault_of(heap, 1, &[one]), Some(Fault::OwnNode));
     assert_eq!(rt;
-        fault_of(
-            heap,
-            0,
-            &[Neighbour {
-                node: 256,
-                weight: 5,
-            }],
-        ),
-        Fault::NodeOutOfRange.code()
+        fault_of(heap, 0, &[weightless]),
+        Some(Fault::WeightOutOfRange)
     );
-    assert_eq!(rt; fault_of(heap, 1, &[one]), Fault::OwnNode.code());
-    assert_eq!(rt;
-        fault_of(heap, 0, &[Neighbour { node: 1, weight: 0 }]),
-        Fault::WeightOutOfRange.code()
-    );
-    assert_eq!(rt;
-        fault_of(heap, 0, &[one, Neighbour { node: 1, weight: 6 }]),
-        Fault::EdgeTwice.code()
-    );
-    assert_eq!(rt;
-        fault_of(heap, 0, &[one, Neighbour { node: 2, weight: 5 }]),
-        Fault::WeightTwice.code()
-    );
-    assert_eq!(rt; fault_of(heap, 0, &[one; 17]), Fault::TooManyEdges.code());
-    assert_eq!(rt; fault_of(heap, 255, &[one]), 0);
+    assert_eq!(rt; fault_of(heap, 0, &twice), Some(Fault::EdgeTwice));
+    assert_eq!(rt; fault_of(heap, 0, &as_heavy), Some(Fault::WeightTwice));
+    assert_eq!(rt; fault_of(heap, 0, &[one; 17]), Some(Fault::TooManyEdges));
+    assert_eq!(rt; fault_of(heap, 255, &[one]), None);
 }

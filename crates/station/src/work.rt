@@ -1,19 +1,19 @@
 // Working off the inboxes: each head is taken or put behind the others, until a round took nothing.
-ghost use Rattle.std.specs.Prelude.{◌≡◌, true, IfOk, OnOk};
+ghost use Rattle.std.specs.Prelude.{◌≡◌, Bool, false, ◌||◌, IfOk, OnOk};
 ghost use Rattle.station.specs.State.{state_of, give_at, acted, woken};
 ghost use Rattle.station.specs.Work.{progress_of, look, looks, waiting_at, lap, works, at_work};
 
 use super::state::Station;
+use link::Link;
 use message::{Message, Refusal};
 use node::{Taking, Turn};
 use std::alloc::{AllocError, Global};
 
-// A station at work, what it has turned away, and whether this round took something.
+// A station at work, and what it has turned away.
 #[derive(Drop)]
 pub(crate) struct Work {
     pub(crate) station: Station,
     pub(crate) refusals: Vec<Refusal>,
-    pub(crate) took: bool,
 }
 
 impl Station {
@@ -24,19 +24,20 @@ impl Station {
         let Some(message) = send else {
             return Ok(());
         };
-        if place < self.links.len() {
-            self.links[place].give(message)?;
-        }
-        Ok(())
+        let Some(link) = self.links.get_mut(place) else {
+            return Ok(());
+        };
+        link.give(message)
     }
 
-    // The node has done a turn: what it sends goes into the outboxes at once.
+    // The node has done a turn: what it sends goes into the outboxes at once. By place: of what `iter_mut` lends a
+    // proof knows nothing.
     fn act(&mut self, turn: Turn) -> Result<(), AllocError>
         ensures { OnOk result (state_of self.new ≡ acted turn (state_of self.old)) }
     {
         self.node = turn.node;
-        for place in 0..16 {
-            self.give_at(place, turn.sends[place])?;
+        for (place, send) in turn.sends.iter().enumerate() {
+            self.give_at(place, *send)?;
         }
         Ok(())
     }
@@ -50,82 +51,76 @@ impl Station {
     }
 }
 
+// Each but the last says whether it took something; in clauses `before` is whether something was taken before. They go
+// by place, since each look changes the whole station.
 impl Work {
     // One look at the head of an inbox.
-    fn look(&mut self, place: usize) -> Result<(), AllocError>
-        ensures { OnOk result (progress_of self.new ≡ look place (progress_of self.old)) }
+    fn look(&mut self, place: usize) -> Result<bool, AllocError>
+        ensures { IfOk result (λ took. (before : Bool) → progress_of self.new (took || before) ≡ look place (progress_of self.old before)) }
     {
-        if place >= self.station.links.len() {
-            return Ok(());
-        }
-        let Some(message) = self.station.links[place].head() else {
-            return Ok(());
+        let Some(link) = self.station.links.get_mut(place) else {
+            return Ok(false);
+        };
+        let Some(message) = link.head() else {
+            return Ok(false);
         };
         match self.station.node.take(place, message) {
             Taking::Taken(turn) => {
-                self.station.links[place].take_head();
-                self.took = true;
+                link.take_head();
                 self.station.act(turn)?;
-                Ok(())
+                Ok(true)
             }
             Taking::Deferred(_) => {
-                self.station.links[place].defer_head();
-                Ok(())
+                link.defer_head();
+                Ok(false)
             }
             Taking::Refused(_, refusal) => {
-                self.station.links[place].take_head();
-                self.took = true;
+                link.take_head();
                 self.refusals.push(refusal)?;
-                Ok(())
+                Ok(true)
             }
         }
     }
 
     // As many looks as messages wait at this place now.
-    fn look_all(&mut self, place: usize) -> Result<(), AllocError>
-        ensures { OnOk result (progress_of self.new ≡ looks place (waiting_at place (progress_of self.old)) (progress_of self.old)) }
+    fn look_all(&mut self, place: usize) -> Result<bool, AllocError>
+        ensures { IfOk result (λ took. (before : Bool) → progress_of self.new (took || before) ≡ looks place (waiting_at place (progress_of self.old before)) (progress_of self.old before)) }
     {
-        if place >= self.station.links.len() {
-            return Ok(());
+        let waiting = self.station.links.get(place).map_or(0, Link::waiting);
+        let mut took = false;
+        for _look in 0..waiting {
+            took |= self.look(place)?;
         }
-        for _look in 0..self.station.links[place].waiting() {
-            self.look(place)?;
-        }
-        Ok(())
+        Ok(took)
     }
 
     // Once over all places.
-    fn round(&mut self) -> Result<(), AllocError>
-        ensures { OnOk result (progress_of self.new ≡ lap (progress_of self.old)) }
+    fn round(&mut self) -> Result<bool, AllocError>
+        ensures { IfOk result (λ took. progress_of self.new took ≡ lap (progress_of self.old false)) }
     {
-        self.took = false;
+        let mut took = false;
         for place in 0..self.station.links.len() {
-            self.look_all(place)?;
+            took |= self.look_all(place)?;
         }
-        Ok(())
+        Ok(took)
     }
 
     // Rounds until one took nothing.
     pub(crate) fn work_off(&mut self) -> Result<(), AllocError>
-        ensures { OnOk result (progress_of self.new ≡ works (progress_of self.old)) }
+        ensures { OnOk result (progress_of self.new false ≡ works (progress_of self.old false)) }
     {
-        'rounds: loop {
-            self.round()?;
-            if !self.took {
-                return Ok(());
-            }
-        }
+        while self.round()? {}
+        Ok(())
     }
 }
 
 // A station with its inboxes worked off, and what it turned away.
 pub(crate) fn worked_off(heap: Global, station: Station) -> Result<Work, AllocError>
-    ensures { IfOk result (λ w. progress_of w ≡ at_work (state_of station)) }
+    ensures { IfOk result (λ w. progress_of w false ≡ at_work (state_of station)) }
 {
     let mut work = Work {
         station,
         refusals: Vec::new(heap),
-        took: false,
     };
     work.work_off()?;
     Ok(work)

@@ -1,20 +1,14 @@
--- Each turn passes a byte of the class.
-use Rattle.std.proofs.Common.{sym, arith}
-use Rattle.std.proofs.lemmas.List.Sums.{prefix_len-drop_yes, prefix_len-drop_no, prefix_len-drop_all}
-use Rattle.graph.specs.Text.{of_class}
+-- What `take_while` counts is the front that passes the test.
+use Rattle.std.proofs.Common.{rules, ◌∙◌}
+use Rattle.std.proofs.lemmas.Iterator.{YieldsList-from_slice}
+use Rattle.std.proofs.lemmas.Iterator.Consumers.{count_from_yields_List, YieldsList-at}
+use Rattle.std.proofs.lemmas.Iterator.Search.{YieldsList-from_take_while}
+use Rattle.std.proofs.lemmas.List.Folds.{length-prefix_len}
+use borrow.Author.Tests.{tests}
 use Rattle.graph.proofs.text.front_of.Goals as goal
 
-pub returns-then-not-holds : goal.returns-then-not-holds
-returns-then-not-holds c =
-    let h = prefix_len-drop_no (of_class c.args.class) c.args.text.now c.loop-i.i 0 c.loop-i-test.true (sym c.if-not-holds.ensures) in
-    record { value = omega (arith, h, c.loop-i.invariant); bound = omega (arith, c.loop-i-test.true) }
-
-pub loop-i-preserved : goal.loop-i-preserved
-loop-i-preserved c =
-    let h = prefix_len-drop_yes (of_class c.args.class) c.args.text.now c.loop-i.i 0 c.loop-i-test.true (sym c.if-not-holds.ensures) in
-    omega (arith, h, c.loop-i.invariant)
-
-pub returns : goal.returns
-returns c =
-    let h = prefix_len-drop_all (of_class c.args.class) c.args.text.now c.loop-i.i c.loop-i-test.false in
-    record { value = omega (arith, h, c.loop-i.invariant, c.loop-i-test.false); bound = omega arith }
+pub returns-clause-value : goal.returns-clause-value
+returns-clause-value g c test computes =
+    count_from_yields_List c.take_while.result c.count.result c.count.ensures.ran
+    (YieldsList-from_take_while _ test (YieldsList-at c.take_while.ensures.source (YieldsList-from_slice c.args.text.now cc)) c.take_while.ensures.closure c.take_while.ensures.done (λ x b q k. search (rules, tests, computes))) ∙
+    length-prefix_len test c.args.text.now

@@ -1,54 +1,28 @@
--- Up to `houses` the reading goes on, or the item is at fault.
-use Rattle.std.proofs.Common.{◌+◌, length, sym, ap, ◌∙◌, inl, inr, arith}
-use Rattle.graph.specs.Lists.{edges_of}
-use Rattle.graph.specs.Reading.{reading_of, first_fault, refused}
-use Rattle.graph.specs.Turns.{left_of}
+-- The first item that is not blank is `houses`, or it is at fault.
+use Rattle.std.proofs.Common.{◌≡◌, Some, ap, subst, sym, Result, inl, inr, rules}
+use Rattle.graph.specs.Reading.{first_fault}
+use Rattle.graph.specs.Turns.{Opened, Sought}
+use Rattle.graph.specs.declared.edge_list.EdgeList.{EdgeList}
 use Rattle.graph.specs.declared.fault.Fault.TheVariants.{NoCount, NotUnderstood}
-use Rattle.graph.proofs.Readings.{on_blank, on_houses, stops, reading_none}
+use Rattle.graph.specs.declared.item.Item.{Item}
+use Rattle.graph.specs.declared.valley_file.Refusal.{Refusal}
+use Rattle.graph.proofs.Readings.{first_none, first_stops, first_opens, on_line}
 use Rattle.graph.proofs.valley_file.open.Goals as goal
 
-pub loop-item-preserved : goal.loop-item-preserved
-loop-item-preserved c =
-    let s = c.loop-item.items in
-    let t = c.next_item.new.self in
-    let n = c.in-Some.ensures in
-    (on_blank (reading_of c.args.items.now.line (left_of c.args.items.now)) s.line t.line c.in-Some.item (left_of s) (left_of t) c.loop-item.invariant.0 n.0 n.1 c.in-Blank.is, n.3, omega (arith, ap length n.0, n.1, c.loop-item.invariant.2))
+pub returns-in_default : goal.returns-in_default
+returns-in_default c = inl (first_none c.args.items.now c.first.new.self c.in_default.ensures)
 
-pub returns-in-Ok : goal.returns-in-Ok
-returns-in-Ok c =
-    let s = c.loop-item.items in
-    let t = c.next_item.new.self in
-    let n = c.in-Some.ensures in
-    let l = c.in-Ok.list in
-    let m = c.in-Ok.ensures in
-    (on_houses (reading_of c.args.items.now.line (left_of c.args.items.now)) s.line t.line c.in-Some.item (left_of s) (left_of t) c.loop-item.invariant.0 n.0 n.1 c.in-Houses.n l.nodes (edges_of l) c.in-Houses.is m.0 m.1 m.2, n.3, omega (arith, ap length n.0, n.1, c.loop-item.invariant.2))
-
-pub returns-in-Err : goal.returns-in-Err
-returns-in-Err c =
-    let s = c.loop-item.items in
-    let t = c.next_item.new.self in
-    let n = c.in-Some.ensures in
-    elim c.in-Err.ensures [
-      | inl f ↦ inl (stops (reading_of c.args.items.now.line (left_of c.args.items.now)) s.line t.line c.in-Some.item (left_of s) (left_of t) c.loop-item.invariant.0 n.0 n.1 c.in-Err.fault (ap first_fault c.in-Houses.is ∙ f))
-      | inr m ↦ inr m
-    ]
+pub returns-in-Houses : goal.returns-in-Houses
+returns-in-Houses c =
+    let s = c.args.items.now in
+    let t = c.first.new.self in
+    let told : c.map_err.result ≡ on_line t.line c.new.result = search rules in
+    let w = subst (λ (i : Item). Sought s (Some i) t) c.in-Houses.is c.in-Some.ensures in
+    subst (λ (r : Result EdgeList Refusal). Opened s t r) (sym told) (first_opens s t c.in-Houses.n w c.new.result c.new.ensures)
 
 pub returns-in-Line : goal.returns-in-Line
-returns-in-Line c =
-    let s = c.loop-item.items in
-    let t = c.next_item.new.self in
-    let n = c.in-Some.ensures in
-    inl (stops (reading_of c.args.items.now.line (left_of c.args.items.now)) s.line t.line c.in-Some.item (left_of s) (left_of t) c.loop-item.invariant.0 n.0 n.1 NoCount (ap first_fault c.in-Line.is))
+returns-in-Line c = inl (first_stops c.args.items.now c.first.new.self c.in-Some.item NoCount c.in-Some.ensures (ap first_fault c.in-Line.is))
 
-pub returns-in-Unknown : goal.returns-in-Unknown
-returns-in-Unknown c =
-    let s = c.loop-item.items in
-    let t = c.next_item.new.self in
-    let n = c.in-Some.ensures in
-    inl (stops (reading_of c.args.items.now.line (left_of c.args.items.now)) s.line t.line c.in-Some.item (left_of s) (left_of t) c.loop-item.invariant.0 n.0 n.1 NotUnderstood (ap first_fault c.in-Unknown.is))
-
-pub returns : goal.returns
-returns c =
-    let s = c.loop-item.items in
-    let n = c.in_default.ensures in
-    inl (c.loop-item.invariant.0 ∙ reading_none s.line (left_of s) n.0 ∙ ap (λ k. refused (k + 1) NoCount) (sym n.1))
+pub returns-in-Blank : goal.returns-in-Blank
+returns-in-Blank c =
+    inl (first_stops c.args.items.now c.first.new.self c.in-Some.item NotUnderstood c.in-Some.ensures (elim c.in-Blank.is [ inl b ↦ absurd (c.in-Some.ensures.solid b) | inr u ↦ ap first_fault u ]))

@@ -1,8 +1,9 @@
 -- The lamps of the first places are there.
-use Rattle.std.proofs.Common.{◌≡◌, vec_items}
-use Rattle.station.specs.State.{state_of}
-use Rattle.housebox.specs.Report.{lamps_below}
+use Rattle.std.proofs.Common.{length, string_bytes}
+use Rattle.std.specs.Slice.Iter.{iter_rest}
+use Rattle.std.specs.Iterator.Adapters.{zip_first, zip_second}
+use Rattle.housebox.proofs.Lamps.{Lit}
 use Rattle.housebox.proofs.report.shown.Given as goal
 
-abbrev pub invariant-loop-place : goal.invariant-loop-place
-invariant-loop-place l = vec_items l.text ≡ lamps_below (state_of l.station) l.place
+abbrev pub invariant-loop-link : goal.invariant-loop-link
+invariant-loop-link l = Lit l.station (length l.yielded) (iter_rest (zip_first l.link-iterator)) (iter_rest (zip_second l.link-iterator)) (string_bytes l.text)

@@ -1,31 +1,39 @@
--- One line more, and a line that is not as it should be.
-use Rattle.std.proofs.Common.{◌<◌, length, get_or, vec_items, sym, ap, ◌∙◌, arith}
-use Rattle.node.specs.Rules.{weight_of}
+-- The links and the weights are looked at in pairs, beside the neighbours.
+use Rattle.std.proofs.Common.{◌≡◌, ◌&&◌, List, [], ◌∷◌, map, vec_items, ℕ, refl, ap, ◌∙◌, ◌≤◌, length, sym, arith, rules}
+use Rattle.std.specs.List.{list_all, zip}
+use Rattle.std.proofs.lemmas.Iterator.{YieldsList-from_slice, YieldsList-from_zip}
+use Rattle.std.proofs.lemmas.Iterator.Search.{all_from_yields_List}
+use Rattle.std.proofs.lemmas.List.{take_all, length-map}
+use Rattle.std.proofs.lemmas.Slice.Zip.{length-zip}
+use borrow.Author.Tests.{tests}
+use Rattle.graph.specs.declared.edge.Neighbour.{Neighbour}
+use Rattle.link.specs.declared.ends.Link.{Link}
+use Rattle.link.specs.Ends.{end_of}
 use Rattle.station.specs.State.{state_of}
-use Rattle.station.specs.Making.{nobody}
 use Rattle.page.specs.Serving.{is_line}
-use Rattle.page.proofs.Lines.{lines_none, lines_more, lines_not, link_at_lem}
+use Rattle.page.proofs.Lines.{is_one, lines_beside}
 use Rattle.page.proofs.serving.lines.Goals as goal
 
-pub loop-place-init : goal.loop-place-init
-loop-place-init c = lines_none (state_of c.args.station.now) c.args.neighbours.now
+-- as it is of links, it is of their ends
+of_ends : (ls : List Link) (ws : List ℕ) (ns : List Neighbour) →
+    list_all (λ l. is_line (end_of l.0.0) l.0.1 l.1) (zip (zip ls ws) ns) ≡ list_all (λ l. is_line l.0.0 l.0.1 l.1) (zip (zip (map end_of ls) ws) ns)
+of_ends [] ws ns = refl
+of_ends (l ∷ ls) [] ns = refl
+of_ends (l ∷ ls) (w ∷ ws) [] = refl
+of_ends (l ∷ ls) (w ∷ ws) (n ∷ ns) = ap (λ b. is_line (end_of l) w n && b) (of_ends ls ws ns)
 
-pub returns-then-not-is_line : goal.returns-then-not-is_line
-returns-then-not-is_line c =
-    let s = c.args.station.now in
+pub returns : goal.returns
+returns c =
+    let ls = vec_items c.args.station.now.links in
+    let ws = c.args.station.now.node.weights in
     let ns = c.args.neighbours.now in
-    let k = c.loop-place.place in
-    let inside : k < length (vec_items s.links) = omega arith in
-    let at = link_at_lem s k c.index.result.now inside c.index.ensures in
-    let line = ap (λ e. is_line e (weight_of s.node k) (get_or ns k nobody)) at in
-    sym (lines_not (state_of s) ns (length ns) k c.loop-place-test.true (line ∙ sym c.if-not-is_line.ensures))
-
-pub loop-place-preserved : goal.loop-place-preserved
-loop-place-preserved c =
-    let s = c.args.station.now in
-    let ns = c.args.neighbours.now in
-    let k = c.loop-place.place in
-    let inside : k < length (vec_items s.links) = omega arith in
-    let at = link_at_lem s k c.index.result.now inside c.index.ensures in
-    let line = ap (λ e. is_line e (weight_of s.node k) (get_or ns k nobody)) at in
-    lines_more (state_of s) ns k c.loop-place.invariant (line ∙ sym c.if-not-is_line.ensures)
+    let s = state_of c.args.station.now in
+    let ends : length (map end_of ls) ≡ length ls = length-map ls end_of in
+    let sixteen : length ws ≡ 16 = search rules in
+    let n = length ns in
+    let pairs = zip (map end_of ls) ws in
+    let long : length (zip pairs ns) ≤ n = omega (arith, length-zip pairs ns) in
+    let whole = ap (list_all (is_one s ns)) (take_all n (zip pairs ns) long) in
+    all_from_yields_List (λ (l : (Link × ℕ) × Neighbour). is_line (end_of l.0.0) l.0.1 l.1) c.all.new.self _ c.all.result c.all.ensures.ran
+    (YieldsList-from_zip (YieldsList-from_zip (YieldsList-from_slice ls cc) (YieldsList-from_slice ws cc)) (YieldsList-from_slice ns cc)) (λ x b q k. search (rules, tests)) ∙
+    of_ends ls ws ns ∙ sym whole ∙ lines_beside s ns n (omega (arith, ends, c.requires.links)) (omega (arith, sixteen, c.requires.few)) (omega arith)

@@ -13,15 +13,15 @@ use Rattle.graph.proofs.edge_list.EdgeList.+visit.Goals.{then-lighter+then-not-s
 pub bounds-seen-n : goal.bounds-seen-n
 bounds-seen-n t c =
     let l = c.args.self.now in
-    let r = truly l.nodes (vec_items l.edges) l.valid l.separate c.args.at c.neighbours-n-items.result.now c.neighbours-n-items.ensures c.loop-n.n-index c.loop-n-test.true in
-    omega (arith, r.inside, l.few)
+    let r = truly l.nodes (vec_items l.edges) l.sound.valid l.sound.separate c.args.at c.neighbours-n-items.result.now c.neighbours-n-items.ensures c.loop-n.n-index c.loop-n-test.true in
+    omega (arith, r.inside, l.sound.few)
 
 pub visit-requires : goal.visit-requires
 visit-requires t c =
     let l = c.args.self.now in
-    let r = truly l.nodes (vec_items l.edges) l.valid l.separate c.args.at c.neighbours-n-items.result.now c.neighbours-n-items.ensures c.loop-n.n-index c.loop-n-test.true in
+    let r = truly l.nodes (vec_items l.edges) l.sound.valid l.sound.separate c.args.at c.neighbours-n-items.result.now c.neighbours-n-items.ensures c.loop-n.n-index c.loop-n-test.true in
     let left : unseen c.loop-n.seen < unseen c.args.seen.now =
-    fewer_left (graph_of l) c.args.under c.args.at c.args.seen.now c.loop-n.seen (omega (arith, c.requires.inside, l.few, c.told-seen)) (omega (arith, c.told-seen, c.loop-n.invariant.2)) c.requires.fresh c.loop-n.invariant.0 in
+    fewer_left (graph_of l) c.args.under c.args.at c.args.seen.now c.loop-n.seen (omega (arith, c.requires.inside, l.sound.few, c.told-seen)) (omega (arith, c.told-seen, c.loop-n.invariant.2)) c.requires.fresh c.loop-n.invariant.0 in
     (subst (λ (n : ℕ). unseen c.loop-n.seen < n) c.decreases left, (r.inside, c.if-not-seen-n.true))
 
 pub loop-n-preserved : goal.loop-n-preserved
@@ -33,8 +33,8 @@ loop-n-preserved t c =
     let ns = c.neighbours-n-items.result.now in
     let same : ns ≡ neighbours_of es c.args.at = c.neighbours-n-items.ensures in
     let s = set c.args.seen.now c.args.at true in
-    let e = edge_to l.nodes es l.valid l.separate c.args.at ns same c.requires.inside i c.loop-n-test.true in
-    let r = truly l.nodes es l.valid l.separate c.args.at ns same i c.loop-n-test.true in
+    let e = edge_to l.nodes es l.sound.valid l.sound.separate c.args.at ns same c.requires.inside i c.loop-n-test.true in
+    let r = truly l.nodes es l.sound.valid l.sound.separate c.args.at ns same i c.loop-n-test.true in
     let sought : Sought ns u i c.loop-n.seen = subst (λ (ms : List Neighbour). Sought ms u i c.loop-n.seen) (sym same) c.loop-n.invariant.1 in
     let went : Searching (graph_of l) u c.args.at s c.if-lighter.seen × Sought ns u (i + 1) c.if-lighter.seen =
     elim c.if-lighter.branch [
@@ -56,5 +56,5 @@ loop-n-preserved t c =
 pub returns : goal.returns
 returns t c =
     let l = c.args.self.now in
-    search_ends (graph_of l) c.args.under c.args.at c.args.seen.now c.loop-n.seen (omega (arith, c.requires.inside, l.few, c.told-seen)) c.loop-n.invariant.0
-    (all_sought l.nodes (vec_items l.edges) l.valid l.separate c.args.at c.neighbours-n-items.result.now c.neighbours-n-items.ensures c.args.under c.loop-n.n-index c.loop-n.seen c.loop-n-test.false c.loop-n.invariant.1)
+    search_ends (graph_of l) c.args.under c.args.at c.args.seen.now c.loop-n.seen (omega (arith, c.requires.inside, l.sound.few, c.told-seen)) c.loop-n.invariant.0
+    (all_sought l.nodes (vec_items l.edges) l.sound.valid l.sound.separate c.args.at c.neighbours-n-items.result.now c.neighbours-n-items.ensures c.args.under c.loop-n.n-index c.loop-n.seen c.loop-n-test.false c.loop-n.invariant.1)

@@ -1,25 +1,20 @@
--- Each edge is right, or wrong and then held against the one found before.
-use Rattle.std.proofs.Common.{◌≡◌, ℕ, length, ap, ◌∙◌, subst, arith}
-use Rattle.graph.specs.Lists.{edges_of, graph_of}
-use Rattle.graph.specs.Marks.{JudgedTo}
-use Rattle.graph.proofs.Judge.{turn_right, turn_wrong}
+-- The chain gives the wrong edges, and of those the lightest.
+use Rattle.std.proofs.Common.{rules}
+use Rattle.std.proofs.lemmas.Iterator.{YieldsList-from_slice, YieldsList-from_map}
+use Rattle.std.proofs.lemmas.Iterator.Consumers.{YieldsList-from_filter, YieldsList-at}
+use borrow.Author.Tests.{tests}
+use Rattle.graph.specs.Lists.{graph_of}
+use Rattle.graph.proofs.Judge.{judged, lightest_found, wrong, found_at}
 use Rattle.graph.proofs.edge_list.EdgeList.verdict.Goals as goal
-use Rattle.graph.proofs.edge_list.EdgeList.verdict.Goals.{then-not-right, else-not-right}
-
-pub loop-i-preserved : goal.loop-i-preserved
-loop-i-preserved c =
-    let l = c.args.self.now in
-    elim c.if-not-right.branch [
-      | then-not-right w ↦
-          turn_wrong (graph_of l) (edges_of l) c.edges-e-items.result.now c.args.marks.now c.loop-i.i c.loop-i.found c.if-not-right.found c.right.result c.marks_at.result
-          c.edges-e-items.ensures c.marks_at.ensures c.right.ensures c.loop-i.invariant w.if-not-right.true (w.found-is ∙ w.lighter_of-found.ensures)
-      | else-not-right w ↦
-          turn_right (graph_of l) (edges_of l) c.edges-e-items.result.now c.args.marks.now c.loop-i.i c.loop-i.found c.if-not-right.found c.right.result c.marks_at.result
-          c.edges-e-items.ensures c.marks_at.ensures c.right.ensures c.loop-i.invariant w.if-not-right.false w.found-is
-    ]
 
 pub returns : goal.returns
 returns c =
-    let l = c.args.self.now in
-    let e : c.loop-i.i ≡ length (edges_of l) = omega (arith, c.loop-i-test.false, c.loop-i.auto.i-end, ap length c.edges-e-items.ensures) in
-    subst (λ (n : ℕ). JudgedTo (graph_of l) (edges_of l) c.args.marks.now n c.loop-i.found) e c.loop-i.invariant
+    let g = graph_of c.args.self.now in
+    judged g c.args.edges.now c.min_by_key.result
+    (lightest_found _ _ c.map.result _ c.min_by_key.result c.min_by_key.ensures.runs
+    (YieldsList-from_map _ (λ m. m.edge)
+    (YieldsList-at c.map.ensures.source
+    (YieldsList-from_filter _ (wrong g) (YieldsList-at c.filter.ensures.source (YieldsList-from_slice c.args.edges.now c.iter.ensures.rest))
+    c.filter.ensures.closure (λ x b q k. (search rules, let l = found_at g k.shown.now x k.shows b in search (rules, tests, l)))))
+    c.map.ensures.closure (λ x r q k. search rules))
+    (λ x n q k. search (rules, tests)))

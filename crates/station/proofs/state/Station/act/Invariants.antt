@@ -5,4 +5,4 @@ use Rattle.station.proofs.state.Station.act.Given as goal
 
 abbrev pub invariant-loop-place : goal.invariant-loop-place
 invariant-loop-place l =
-    state_of l.self ≡ record { number = l.initial.self.number; node = l.initial.self.node; links = gave_below l.turn.sends (state_of l.initial.self).links l.place }
+    state_of l.self ≡ record { number = l.initial.self.number; node = l.initial.self.node; links = gave_below l.fn.turn.sends (state_of l.initial.self).links l.place }

@@ -1,5 +1,0 @@
-use Rattle.housebox.proofs.Digits.{only_all}
-use Rattle.housebox.proofs.hex.hex_only.Goals as goal
-
-pub returns : goal.returns
-returns c = only_all

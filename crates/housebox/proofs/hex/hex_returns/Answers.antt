@@ -1,5 +1,0 @@
-use Rattle.housebox.proofs.Digits.{returns_all}
-use Rattle.housebox.proofs.hex.hex_returns.Goals as goal
-
-pub returns : goal.returns
-returns c = returns_all

@@ -1,7 +1,0 @@
--- Beyond the places there is nothing.
-use Rattle.std.proofs.Common.{rules}
-use Rattle.std.proofs.lemmas.List.{get_or_past}
-use Rattle.node.proofs.state.Node.mark.Goals as goal
-
-pub returns-else-edge-lt-SLOTS : goal.returns-else-edge-lt-SLOTS
-returns-else-edge-lt-SLOTS c = search (rules, get_or_past)
