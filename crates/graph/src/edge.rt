@@ -11,7 +11,7 @@ pub struct WeightedEdge {
 }
 
 impl WeightedEdge {
-    // Does it run between these two nodes, in either direction?
+    // Does it run between these two nodes, in either direction? Two numbers and no pair: who asks has them apart.
     pub fn joins(&self, a: usize, b: usize) -> bool
         ensures { result ≡ between self.now a b }
     {

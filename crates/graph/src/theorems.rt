@@ -1,4 +1,5 @@
-// The theory of the lightest net, a function for each theorem: its contract is the theorem.
+// The theory of the lightest net.
+// A law is proved only where the contract of a function names it, so each has its own, which does nothing.
 ghost use Rattle.graph.specs.Exact.{Exact, SoundWeights, AlwaysSound};
 ghost use Rattle.graph.specs.Theorems.{Cut, Cycle, Span, NoRing, Decided};
 

@@ -47,7 +47,7 @@ pub fn decode(heap: Global, text: &[u8]) -> Result<Option<Vec<u8>>, AllocError>
     Ok(Some(bytes))
 }
 
-// What is encoded is decoded to itself.
+// What is encoded is decoded to itself. A law is proved only where a contract names it.
 pub fn hex_returns()
     ensures { HexReturns }
 {}

@@ -1,4 +1,5 @@
-// What a link promises, each theorem on a function of its own that does nothing.
+// What a link promises.
+// A law is proved only where the contract of a function names it, so each has its own, which does nothing.
 ghost use Rattle.link.specs.Theorems.{TakenInOrder, NumbersEnd, AllDelivered, CanDeliver};
 
 // What was taken is the beginning of what was given, in order, each once.

@@ -1,4 +1,5 @@
-// What the bytes promise, each law on a function of its own.
+// What the bytes promise.
+// A law is proved only where the contract of a function names it, so each has its own, which does nothing.
 ghost use Rattle.message.specs.Laws.{MessageReturns, MessageDecodedOnly, PacketReturns, PacketDecodedOnly, AcknowledgementReturns, AcknowledgementDecodedOnly};
 
 pub fn message_returns()

@@ -99,6 +99,7 @@ impl Message {
             }
             Message::Accept => Ok(vec![in heap; 4]?),
             Message::Reject => Ok(vec![in heap; 5]?),
+            // No weight is 0, so that 0 can stand for none.
             Message::Report { best } => {
                 let [a, b, c, d] = best.unwrap_or(0).to_be_bytes();
                 Ok(vec![in heap; 6, a, b, c, d]?)

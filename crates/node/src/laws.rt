@@ -1,4 +1,5 @@
-// What a node promises, each law on a function of its own.
+// What a node promises.
+// A law is proved only where the contract of a function names it, so each has its own, which does nothing.
 ghost use Rattle.node.specs.Laws.{MarksStay, TestsLightest, NothingLost, UntakenUnchanged, LevelKept, SendsFit, WithinEdges, FreshFit, MarksLast, AlwaysFit};
 
 pub fn marks_stay()

@@ -12,6 +12,8 @@ use super::{Unread, Unwritten};
 use node::{Best, Mark, Node, Status};
 use std::array;
 
+// Which bytes stand for statuses, marks and places is the page's matter, and the types are another crate's: here and
+// below there is no `From` of them.
 fn status_byte(status: Status) -> u8
     ensures { result ≡ status_byte status }
 {

@@ -1,4 +1,5 @@
-// What a page promises, each law on a function of its own.
+// What a page promises.
+// A law is proved only where the contract of a function names it, so each has its own, which does nothing.
 ghost use Rattle.page.specs.Laws.{PageReturns, PageReadOnly, PageShort};
 
 pub fn page_returns()

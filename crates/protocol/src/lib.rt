@@ -1,4 +1,5 @@
 // The protocol as a whole: nets of nodes, and what is proved of every net that can be reached.
+// A law is proved only where the contract of a function names it, so each has its own, which does nothing.
 #![tactic(auto)]
 
 ghost use Rattle.protocol.specs.Theorems.{AlwaysRight, Main, Rests, LevelsLow, FewMessages, ShortQueues, NoStray, NoLateConnect, NeverStuck};

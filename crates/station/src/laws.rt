@@ -1,4 +1,5 @@
-// What a station promises, a function for each law, which does nothing: its contract is the law.
+// What a station promises.
+// A law is proved only where the contract of a function names it, so each has its own, which does nothing.
 ghost use Rattle.station.specs.Laws.{InboxesCalm, NothingForgotten, AcknowledgedIsHeld, RefusedChangesNothing, MarksByMessages};
 
 // Once the inboxes are worked off, whatever still waits has to wait.
