@@ -36,7 +36,7 @@ impl Fault {
         }
     }
 
-    // What a person is told.
+    // What a person is told. `Display` uses it; this cannot fail, and what that writes to can.
     pub fn reason(self) -> &'static str
         ensures { result.now ≡ words_of self }
     {

@@ -61,6 +61,7 @@ impl Items<'_> {
 fn open(heap: Global, items: &mut Items<'_>) -> Result<EdgeList, Refusal>
     ensures { Opened items.old items.new result }
 {
+    // No `ok_or`: the line after the last is asked for when none is left.
     let Some(item) = items.first() else {
         return Err(Refusal {
             line: items.line + 1,

@@ -39,7 +39,8 @@ pub enum Message {
     Change,
 }
 
-// Why there are no bytes: no memory, or a field that has no bytes (a level above 8, a weight of 0).
+// Why there are no bytes: no memory, or a field that has no bytes (a level above 8, a weight of 0). An enum of its own,
+// since it names its own second case.
 #[derive(Clone, Copy, Debug, PartialEq, Eq)]
 pub enum Unsent {
     Memory,

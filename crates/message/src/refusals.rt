@@ -32,7 +32,7 @@ impl Refusal {
         }
     }
 
-    // What a person is told of it.
+    // What a person is told of it. `Display` uses it; this cannot fail, and what that writes to can.
     pub fn words(self) -> &'static str
         ensures { result.now ≡ words_of self }
     {

@@ -63,6 +63,7 @@ impl From<Unsent> for Unwritten {
     }
 }
 
+// By hand, since thiserror's `From` has no contract and clauses name the case.
 impl<T: Drop> From<AllocFailed<T>> for Unread {
     ghost from_gives = { λ _ r. r ≡ unread.Memory };
 

@@ -35,7 +35,7 @@ fn answer(link: &Link) -> Transmission
 }
 
 impl Station {
-    // The oldest message of each link whose place is picked.
+    // The oldest message of each link whose place is picked. A `for`, since a push may fail.
     fn push_picked<F: Fn(usize) -> bool>(
         &self,
         picks: F,
@@ -122,6 +122,7 @@ impl Station {
                 sends,
                 refusals: vec![in heap; refusal]?,
             }),
+            // The two errors leave on two ways, so no `?`.
             Err(Unreceived::Memory(error)) => Err(error),
         }
     }

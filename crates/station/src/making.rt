@@ -43,6 +43,7 @@ fn check_station(number: usize, neighbours: &[Neighbour]) -> Result<(), Fault>
     if neighbours.len() > 16 {
         return Err(Fault::TooManyEdges);
     }
+    // Each is looked at beside those before it.
     for (place, neighbour) in neighbours.iter().enumerate() {
         check_neighbour(number, &neighbours[..place], *neighbour)?;
     }
