@@ -61,7 +61,7 @@ impl Items<'_> {
 fn open(heap: Global, items: &mut Items<'_>) -> Result<EdgeList, Refusal>
     ensures { Opened items.old items.new result }
 {
-    // No `ok_or`: the line after the last is asked for when none is left.
+    // No `ok_or`, which would make the refusal before it is known that there is one.
     let Some(item) = items.first() else {
         return Err(Refusal {
             line: items.line + 1,
