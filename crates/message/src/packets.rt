@@ -92,9 +92,11 @@ impl Acknowledgement {
     pub fn decode(bytes: &[u8]) -> Result<Acknowledgement, Refusal>
         ensures { result ≡ acknowledgement_of bytes.now }
     {
-        let Some((number, [])) = opened(ACKNOWLEDGEMENT, bytes) else {
+        // The length first, so that no sum is taken of bytes that are too many.
+        let [_, _, _, _, _, _, _] = bytes else {
             return Err(Refusal::Malformed);
         };
+        let (number, _) = opened(ACKNOWLEDGEMENT, bytes).ok_or(Refusal::Malformed)?;
         Ok(Acknowledgement { number })
     }
 }
