@@ -1,5 +1,6 @@
 -- Reading a page: what its bytes would be is taken from them without a test, written again and compared, so that nothing but a page is accepted.
 use Rattle.std.specs.Prelude.{◌≡◌, ℕ, zero, suc, ◌+◌, ◌-◌, ◌*◌, cond, ◌&&◌, ◌||◌, List, [], ◌∷◌, ◌++◌, map, length, take, drop, Some, None, Ok, Err, Option, Result, MatchResult, ◌==◌, nat_lt, slice_index}
+use Rattle.std.specs.Borrow.{Bor}
 use Rattle.std.specs.Simd.{first_chunks}
 use Rattle.std.specs.Str.{bytes_eq}
 use Rattle.message.specs.declared.refusals.Refusal.{Refusal}
@@ -119,3 +120,8 @@ WhyUnread Foreign o = o ≡ None
 -- what the code read, or why it read nothing
 abbrev pub ReadAs : {A B : Type 0} → (A → B) → Result A Unread → Option B → Type 0
 ReadAs f r o = MatchResult r (λ x. o ≡ Some (f x)) (λ e. WhyUnread e o)
+
+-- what the code read, with the bytes behind it
+abbrev pub viewed : {A : Type 0} → Option (A × Bor (List ℕ)) → Front A
+viewed None = None
+viewed (Some p) = Some (p.0, p.1.now)

@@ -4,7 +4,7 @@ ghost use Rattle.message.specs.Bytes.{weight_or_zero};
 ghost use Rattle.node.specs.Rules.{best_weight};
 ghost use Rattle.node.specs.declared.state.Node.{Node};
 ghost use Rattle.page.specs.Page.{status_byte, mark_byte, place_byte, place_fits, field_bytes, node_bytes, node_fits, Appended};
-ghost use Rattle.page.specs.Reading.{status_of, mark_of, place_of, best_of, words_of, node_front};
+ghost use Rattle.page.specs.Reading.{status_of, mark_of, place_of, best_of, words_of, node_front, viewed};
 
 use super::from_page::{FromPage, Reader};
 use super::to_page::{ToPage, put_all};
@@ -47,7 +47,7 @@ fn place_byte(place: Option<usize>) -> u8
 }
 
 // Has each field its byte?
-fn node_fits(node: Node) -> bool
+pub(crate) fn node_fits(node: Node) -> bool
     ensures { result ≡ node_fits node }
 {
     node.edges <= 16
@@ -133,6 +133,34 @@ fn marks_of(bytes: &[u8; 16]) -> [Mark; 16]
     bytes.map(mark_of)
 }
 
+// The node that the bytes begin with, and what is left of them.
+fn node_front(bytes: &[u8]) -> Option<(Node, &[u8])>
+    ensures { viewed result ≡ node_front bytes.now }
+{
+    let [status, edges, level, a, b, c, d, find_count, rest @ ..] = bytes else {
+        return None;
+    };
+    let [parent, best, e, f, g, h, testing, halted, rest @ ..] = rest else {
+        return None;
+    };
+    let (weights, rest) = rest.split_first_chunk()?;
+    let (marks, rest) = rest.split_first_chunk()?;
+    let node = Node {
+        status: status_of(*status),
+        edges: usize::from(*edges),
+        weights: weights_of(weights),
+        marks: marks_of(marks),
+        level: *level,
+        name: u32::from_be_bytes([*a, *b, *c, *d]),
+        find_count: *find_count,
+        parent: place_of(*parent),
+        best: best_of(*best, u32::from_be_bytes([*e, *f, *g, *h])),
+        testing: place_of(*testing),
+        halted: *halted == 1,
+    };
+    Some((node, rest))
+}
+
 impl FromPage for Node {
     ghost Value = { Node };
 
@@ -141,31 +169,10 @@ impl FromPage for Node {
     ghost front = { node_front };
 
     fn read(reader: &mut Reader) -> Result<Node, Unread> {
-        let [status, edges, level, a, b, c, d, find_count, rest @ ..] = reader.left else {
-            return Err(Unread::Foreign);
-        };
-        let [parent, best, e, f, g, h, testing, halted, rest @ ..] = rest else {
-            return Err(Unread::Foreign);
-        };
-        let Some((weights, rest)) = rest.split_first_chunk() else {
-            return Err(Unread::Foreign);
-        };
-        let Some((marks, rest)) = rest.split_first_chunk() else {
+        let Some((node, rest)) = node_front(reader.left) else {
             return Err(Unread::Foreign);
         };
         reader.left = rest;
-        Ok(Node {
-            status: status_of(*status),
-            edges: usize::from(*edges),
-            weights: weights_of(weights),
-            marks: marks_of(marks),
-            level: *level,
-            name: u32::from_be_bytes([*a, *b, *c, *d]),
-            find_count: *find_count,
-            parent: place_of(*parent),
-            best: best_of(*best, u32::from_be_bytes([*e, *f, *g, *h])),
-            testing: place_of(*testing),
-            halted: *halted == 1,
-        })
+        Ok(node)
     }
 }

@@ -4,7 +4,7 @@ ghost use Rattle.std.specs.List.{list_all};
 ghost use Rattle.message.specs.declared.messages.Message.{Message};
 ghost use Rattle.message.specs.Bytes.{fits, message_bytes};
 ghost use Rattle.page.specs.Page.{queue_bytes};
-ghost use Rattle.page.specs.Reading.{size_of, message_front, queue_front};
+ghost use Rattle.page.specs.Reading.{size_of, message_front, queue_front, viewed};
 
 use super::from_page::{FromPage, Reader};
 use super::to_page::{ToPage, pair, put_all};
@@ -37,6 +37,19 @@ fn size_of(kind: u8) -> usize
     }
 }
 
+// The message that the bytes begin with, and what is left of them.
+#[tactic(auto, unfolding(crate::specs::Reading::message_front))]
+fn message_front(bytes: &[u8]) -> Option<(Message, &[u8])>
+    ensures { viewed result ≡ message_front bytes.now }
+{
+    let [kind, ..] = bytes else {
+        return None;
+    };
+    let (bytes, rest) = bytes.split_at_checked(size_of(*kind))?;
+    let message = Message::decode(bytes).ok()?;
+    Some((message, rest))
+}
+
 impl FromPage for Message {
     ghost Value = { Message };
 
@@ -44,15 +57,8 @@ impl FromPage for Message {
 
     ghost front = { message_front };
 
-    #[tactic(auto, unfolding(crate::specs::Reading::message_front))]
     fn read(reader: &mut Reader) -> Result<Message, Unread> {
-        let [kind, ..] = reader.left else {
-            return Err(Unread::Foreign);
-        };
-        let Some((bytes, rest)) = reader.left.split_at_checked(size_of(*kind)) else {
-            return Err(Unread::Foreign);
-        };
-        let Ok(message) = Message::decode(bytes) else {
+        let Some((message, rest)) = message_front(reader.left) else {
             return Err(Unread::Foreign);
         };
         reader.left = rest;
