@@ -1,5 +1,5 @@
 // What stands at one end of a link, and what it does with packets and acknowledgements.
-ghost use Rattle.std.specs.Prelude.{◌≡◌, length, MatchResult};
+ghost use Rattle.std.specs.Prelude.{◌≡◌, length, IfOk, MatchResult};
 ghost use Rattle.std.specs.Result.{result_err};
 ghost use Rattle.link.specs.Ends.{end_of, new_end, giving, oldest, received, why_not_taken, WhyUnreceived, settled, why_not_settled, head_of, is_idle, taking, deferring};
 
@@ -21,6 +21,17 @@ pub struct Link {
     pub inbox: VecDeque<Message>,
 }
 
+// The same messages in the same order. By blocks: a queue's own `clone` goes message by message.
+fn copied(queue: &VecDeque<Message>) -> Result<VecDeque<Message>, AllocError>
+    ensures { IfOk result (λ q. q.items ≡ queue.now.items) }
+{
+    let heap = *queue.allocator();
+    let (front, back) = queue.as_slices();
+    let mut messages = Vec::from_slice(heap, front)?;
+    messages.extend_from_slice(back)?;
+    Ok(VecDeque::from_vec(messages))
+}
+
 // By hand, since its clause speaks of the end that the copy holds: a derived one speaks of each field.
 impl Clone for Link {
     ghost is_clone = { λ l m. end_of m ≡ end_of l };
@@ -29,9 +40,9 @@ impl Clone for Link {
         Ok(Link {
             neighbour: self.neighbour,
             acknowledged: self.acknowledged,
-            outbox: self.outbox.clone()?,
+            outbox: copied(&self.outbox)?,
             taken: self.taken,
-            inbox: self.inbox.clone()?,
+            inbox: copied(&self.inbox)?,
         })
     }
 }

@@ -1,6 +1,6 @@
 -- Links as the code holds them, and as the definitions see them.
 use Rattle.std.proofs.Common.{◌≡◌, ℕ, ◌<◌, ◌≤◌, List, [], ◌∷◌, map, length, get_or, set, Some, sym, refl, ap, ◌∙◌, subst, arith}
-use Rattle.std.proofs.lemmas.List.{get_or-map, get_or_past, length-map, map-set, set_past}
+use Rattle.std.proofs.lemmas.List.{get_or-map, get_or_past, length-map, map-set, set-get_or, set_past}
 use Rattle.std.specs.List.{AllZip}
 use Rattle.link.specs.declared.ends.Link.{Link}
 use Rattle.link.specs.Ends.{End, end_of}
@@ -22,6 +22,10 @@ pub link_changed : (ls : List Link) (k : ℕ) (l x : Link) (f : End → End) →
     map end_of (set ls k l) ≡ set (map end_of ls) k (f (link_in (map end_of ls) k))
 link_changed ls k l x f h e c =
     map-set end_of ls k l ∙ ap (λ v. set (map end_of ls) k v) (c ∙ ap f (sym (link_read ls k x h e)))
+
+-- a link that is put back as it was read changes nothing
+pub link_kept : (ls : List Link) (k : ℕ) (l : Link) → l ≡ get_or ls k l → set ls k l ≡ ls
+link_kept ls k l e = ap (set ls k) e ∙ set-get_or ls k l
 
 -- a change where there is no link changes nothing
 pub link_unchanged : (ls : List Link) (k : ℕ) (e : End) → length ls ≤ k → map end_of ls ≡ set (map end_of ls) k e

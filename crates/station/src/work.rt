@@ -1,6 +1,7 @@
 // Working off the inboxes: each head is taken or put behind the others, until a round took nothing.
 ghost use Rattle.std.specs.Prelude.{◌≡◌, Bool, false, ◌||◌, IfOk, OnOk};
-ghost use Rattle.station.specs.State.{state_of, give_at, acted, woken};
+ghost use Rattle.link.specs.Ends.{deferring};
+ghost use Rattle.station.specs.State.{state_of, link_at, with_link, give_at, acted, woken};
 ghost use Rattle.station.specs.Work.{progress_of, look, looks, waiting_at, lap, works, at_work};
 
 use super::state::Station;
@@ -28,6 +29,15 @@ impl Station {
             return Ok(());
         };
         link.give(message)
+    }
+
+    // The node defers the head of an inbox: it goes behind the others there.
+    fn defer_at(&mut self, place: usize)
+        ensures { state_of self.new ≡ with_link place (deferring (link_at (state_of self.old) place)) (state_of self.old) }
+    {
+        if let Some(link) = self.links.get_mut(place) {
+            link.defer_head();
+        }
     }
 
     // The node has done a turn: what it sends goes into the outboxes at once. By place: of what `iter_mut` lends a
@@ -71,7 +81,7 @@ impl Work {
                 Ok(true)
             }
             Taking::Deferred(_) => {
-                link.defer_head();
+                self.station.defer_at(place);
                 Ok(false)
             }
             Taking::Refused(_, refusal) => {
