@@ -82,8 +82,12 @@ unfolding wrong
 wrong_decides g m = not_decides (right_by m (belongs_or_not g m.edge.a m.edge.b)) (right_decides m (belongs_or_not g m.edge.a m.edge.b))
 
 -- what the code finds wrong is wrong
+pub found_wrong : (g : Graph) (y x : MarkedEdge) → y ≡ x → (b : Bool) → TellsWrong g y b → b ≡ wrong g x
+found_wrong g y x s b d = same_from_decides b (wrong g y) d.decides (wrong_decides g y) ∙ ap (wrong g) s
+
+-- the same of edges that are lent
 pub found_at : (g : Graph) (y x : Bor MarkedEdge) → y ≡ x → (b : Bool) → TellsWrong g y.now b → b ≡ wrong g x.now
-found_at g y x s b d = same_from_decides b (wrong g y.now) d.decides (wrong_decides g y.now) ∙ ap (λ (z : Bor MarkedEdge). wrong g z.now) s
+found_at g y x s b d = found_wrong g y.now x.now (ap (λ (z : Bor MarkedEdge). z.now) s) b d
 
 -- of these edges there is none, or this is the lightest
 abbrev pub Lightest : List WeightedEdge → Option WeightedEdge → Type 0

@@ -8,6 +8,7 @@ pub mod Edges
 pub mod Push
 mod Adjoin
 mod Judge
+mod Beside
 mod Search
 mod Digits
 mod Lines

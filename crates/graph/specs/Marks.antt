@@ -1,5 +1,5 @@
 -- Marks of edges, and when they are those of the lightest net.
-use Rattle.std.specs.Prelude.{◌≡◌, ℕ, ◌≤◌, Bool, cond, Decides, List, map, position, All, Any, Some, None, Option, ◌==◌, slice_index_or, slice_set}
+use Rattle.std.specs.Prelude.{◌≡◌, ℕ, ◌≤◌, Bool, cond, Decides, List, [], ◌∷◌, map, position, All, Any, Some, None, Option, ◌==◌, slice_index_or, slice_set}
 use Rattle.graph.specs.Graph.{Graph, Belongs}
 use Rattle.graph.specs.Edges.{between, no_edge}
 use Rattle.graph.specs.declared.edge.WeightedEdge.{WeightedEdge}
@@ -54,3 +54,22 @@ marked_at ms l (Some i) = slice_set ms i (with_mark (slice_index_or ms i (undeci
 -- the edges with a new mark, on the first between its two nodes; where there is none nothing changes
 abbrev pub marked : List MarkedEdge → MarkLine → List MarkedEdge
 marked ms l = marked_at ms l (position (λ m. between m.edge l.at l.to) ms)
+
+-- the marks of an edge that nobody has decided on
+abbrev pub unmarked : EndMarks
+unmarked = record { a = Basic; b = Basic }
+
+-- the edges of a list, each with the marks at its place beside it; past the end of the marks nobody has decided
+unfoldable pub with_marks : List WeightedEdge → List EndMarks → List MarkedEdge
+with_marks [] ms = []
+with_marks (e ∷ es) [] = undecided e ∷ with_marks es []
+with_marks (e ∷ es) (m ∷ ms) = record { edge = e; ends = m } ∷ with_marks es ms
+
+-- the marks with a new one at one place, if there is one
+abbrev pub marks_with_at : List WeightedEdge → List EndMarks → MarkLine → Option ℕ → List EndMarks
+marks_with_at es ms l None = ms
+marks_with_at es ms l (Some i) = slice_set ms i (with_mark (record { edge = slice_index_or es i no_edge; ends = slice_index_or ms i unmarked }) l).ends
+
+-- the marks beside a list with a new one, on its first edge between the two nodes; where there is none, or no place for its marks, nothing changes
+abbrev pub marks_with : List WeightedEdge → List EndMarks → MarkLine → List EndMarks
+marks_with es ms l = marks_with_at es ms l (position (λ e. between e l.at l.to) es)

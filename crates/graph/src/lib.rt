@@ -4,6 +4,7 @@
 pub mod build;
 pub mod edge;
 pub mod edge_list;
+pub mod end_marks;
 pub mod fault;
 pub mod item;
 pub mod items;

@@ -22,14 +22,14 @@ impl EdgeList {
     }
 
     // Is it marked wrong at one end at least?
-    fn wrong(&self, m: &MarkedEdge) -> bool
+    pub(crate) fn wrong(&self, m: &MarkedEdge) -> bool
         ensures { TellsWrong (graph_of self.now) m.now result }
     {
         !self.right(m.edge, m.ends)
     }
 
     // None where all of these are marked right at both ends, else the lightest that is not.
-    pub fn verdict(&self, edges: &[MarkedEdge]) -> Option<WeightedEdge>
+    pub fn lightest_wrong(&self, edges: &[MarkedEdge]) -> Option<WeightedEdge>
         ensures { Judged (graph_of self.now) edges.now result }
     {
         edges
@@ -99,6 +99,6 @@ impl<'a> Marks<'a> {
     pub fn verdict(&self) -> Option<WeightedEdge>
         ensures { Judged (graph_of self.now.list.now) self.now.edges.items result }
     {
-        self.list.verdict(&self.edges)
+        self.list.lightest_wrong(&self.edges)
     }
 }

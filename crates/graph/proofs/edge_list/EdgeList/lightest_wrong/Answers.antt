@@ -5,7 +5,7 @@ use Rattle.std.proofs.lemmas.Iterator.Consumers.{YieldsList-from_filter, YieldsL
 use borrow.Author.Tests.{tests}
 use Rattle.graph.specs.Lists.{graph_of}
 use Rattle.graph.proofs.Judge.{judged, lightest_found, wrong, found_at}
-use Rattle.graph.proofs.edge_list.EdgeList.verdict.Goals as goal
+use Rattle.graph.proofs.edge_list.EdgeList.lightest_wrong.Goals as goal
 
 pub returns : goal.returns
 returns c =
