@@ -22,6 +22,21 @@ refusal_of TooManyEdges = Some UnsoundGraph
 refusal_of Apart = Some UnsoundGraph
 refusal_of NoMemory = None
 
+-- a number for each fault
+abbrev pub code_of : Fault → ℕ
+code_of NotUnderstood = 1
+code_of NoCount = 2
+code_of CountTwice = 3
+code_of CountOutOfRange = 4
+code_of NodeOutOfRange = 5
+code_of OwnNode = 6
+code_of WeightOutOfRange = 7
+code_of EdgeTwice = 8
+code_of WeightTwice = 9
+code_of TooManyEdges = 10
+code_of Apart = 11
+code_of NoMemory = 12
+
 -- what a person is told
 abbrev pub words_of : Fault → List ℕ
 words_of NotUnderstood = codes "neither `houses N` nor `line A B L`"

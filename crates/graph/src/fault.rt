@@ -1,5 +1,5 @@
 // Why a valley file is refused.
-ghost use Rattle.graph.specs.Faults.{refusal_of, words_of};
+ghost use Rattle.graph.specs.Faults.{code_of, refusal_of, words_of};
 ghost use Rattle.graph.specs.declared.fault.Fault.TheVariants.{NoMemory};
 ghost use Rattle.std.specs.Prelude.{◌≡◌, Some};
 
@@ -8,7 +8,7 @@ use std::alloc::{AllocError, AllocFailed};
 use std::error::Error;
 use std::fmt;
 
-// What is wrong with a line of the file, or with the whole. `fault as u8` is a number for each.
+// What is wrong with a line of the file, or with the whole. Each has its number, which `code` tells.
 #[derive(Clone, Copy, PartialEq, Eq, Debug)]
 pub enum Fault {
     NotUnderstood = 1,
@@ -34,6 +34,13 @@ impl Fault {
             Fault::NoMemory => None,
             _ => Some(Refusal::UnsoundGraph),
         }
+    }
+
+    // A number for each fault.
+    pub fn code(&self) -> u8
+        ensures { result ≡ code_of self.now }
+    {
+        *self as u8
     }
 
     // What a person is told. `Display` uses it; this cannot fail, and what that writes to can.

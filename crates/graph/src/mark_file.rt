@@ -5,7 +5,8 @@ ghost use Rattle.std.specs.Prelude.{◌≡◌, IfOk};
 
 use crate::edge::WeightedEdge;
 use crate::edge_list::EdgeList;
-use crate::mark::{Mark, MarkLine};
+use crate::mark::Mark;
+pub use crate::mark::MarkLine;
 use crate::text::{Cursor, Lines, number};
 use crate::verdict::Marks;
 use std::alloc::{AllocError, Global};

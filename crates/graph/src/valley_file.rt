@@ -6,7 +6,7 @@ ghost use Rattle.graph.specs.Turns.{Sought, Opened, AllTaken};
 use crate::edge_list::EdgeList;
 use crate::fault::Fault;
 use crate::item::Item;
-use crate::items::Items;
+pub use crate::items::Items;
 use std::alloc::Global;
 use std::error::Error;
 use std::fmt;

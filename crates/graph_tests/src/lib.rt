@@ -170,6 +170,30 @@ mod tests {
         refuses(&rt, &again, 3, Fault::EdgeTwice)
     }
 
+    // Every fault with its number.
+    const CODES: [(Fault, u8); 12] = [
+        (Fault::NotUnderstood, 1),
+        (Fault::NoCount, 2),
+        (Fault::CountTwice, 3),
+        (Fault::CountOutOfRange, 4),
+        (Fault::NodeOutOfRange, 5),
+        (Fault::OwnNode, 6),
+        (Fault::WeightOutOfRange, 7),
+        (Fault::EdgeTwice, 8),
+        (Fault::WeightTwice, 9),
+        (Fault::TooManyEdges, 10),
+        (Fault::Apart, 11),
+        (Fault::NoMemory, 12),
+    ];
+
+    #[test]
+    fn codes(rt: HostRuntime) -> Result<(), Fail> {
+        for (fault, code) in CODES.iter() {
+            assert_eq!(rt; fault.code(), *code);
+        }
+        Ok(())
+    }
+
     const TRIANGLE: &[u8] = b"houses 3\nline 0 1 1\nline 1 2 2\nline 0 2 3\n";
 
     fn wrong(
