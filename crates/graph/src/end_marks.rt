@@ -56,7 +56,7 @@ impl EdgeList {
         }
     }
 
-    // Of the first edges of a list, each with the marks at its place, the lightest that is marked wrong.
+    // None where these edges, each with the marks at its place, are all marked right, else the lightest that is not.
     fn lightest_of(&self, edges: &[WeightedEdge], marks: &[EndMarks]) -> Option<WeightedEdge>
         ensures { Judged (graph_of self.now) (with_marks edges.now marks.now) result }
     {

@@ -58,7 +58,12 @@ impl Marks<'_> {
 pub fn judge(heap: Global, list: &EdgeList, text: &[u8]) -> Result<Option<WeightedEdge>, AllocError>
     ensures { IfOk result (λ v. Verdict list.now text.now v) }
 {
-    let mut marks = Marks::new(heap, list)?;
-    marks.take(text);
-    Ok(marks.verdict())
+    // Beside the edges, marks take a sixteenth of what `Marks` takes.
+    let mut marks = list.unmarked(heap)?;
+    for words in Lines::new(text) {
+        if let Some(MarkLine { at, to, mark }) = mark_line(words) {
+            list.set_mark(&mut marks, at, to, mark);
+        }
+    }
+    Ok(list.verdict(&marks))
 }
