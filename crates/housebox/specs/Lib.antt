@@ -5,4 +5,5 @@ pub mod Hex
 pub mod Reply
 pub mod Report
 pub mod Step
+pub mod Trouble
 pub mod Unstepped

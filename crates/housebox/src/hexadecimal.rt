@@ -6,6 +6,7 @@ ghost use Rattle.std.specs.Option.{option_map};
 use std::alloc::{AllocError, Global};
 
 // The text of some bytes.
+#[tactic(auto, using(crate::proofs::Digits::lower_hex))]
 pub fn encode(heap: Global, bytes: &[u8]) -> Result<String, AllocError>
     ensures { IfOk result (λ s. string_bytes s ≡ hex_of bytes.now) }
 {

@@ -50,9 +50,10 @@ impl House {
         })
     }
 
-    // What one line of the input says is done.
+    // What one line of the input says is done. It may have its end, which says nothing.
     pub fn obey(self, rt: &HostRuntime, line: &[u8]) -> anyhow::Result<House> {
         let heap = rt.alloc();
+        let line = line.strip_suffix(b"\n").unwrap_or(line);
         match reply_to(heap, &self.station, command_of(heap, line)?)? {
             Reply::Silence => Ok(self),
             Reply::Lines(text) => {

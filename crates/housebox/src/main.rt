@@ -21,10 +21,16 @@ use std::process::ExitCode;
 const USE: &str = "use: box I J:L J:L ..";
 
 // Obeys each line of the input. A line is read as soon as it is there, since who sends it may wait for what it says.
+// A buffer serves all lines: no `split`, which makes one for each.
 fn serve(rt: &HostRuntime, mut house: House) -> anyhow::Result<()> {
-    let input = BufReader::new(rt.alloc(), rt.stdin())?;
-    for line in input.split(rt.alloc(), b'\n') {
-        house = house.obey(rt, &line?)?;
+    let mut input = BufReader::new(rt.alloc(), rt.stdin())?;
+    let mut line = Vec::new(rt.alloc());
+    for _ in 0..u64::MAX {
+        line.clear();
+        if input.read_until(b'\n', &mut line)? == 0 {
+            break;
+        }
+        house = house.obey(rt, &line)?;
     }
     Ok(())
 }

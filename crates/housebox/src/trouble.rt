@@ -1,4 +1,7 @@
 // Why a box stops, in the words that it says on standard error.
+ghost use Rattle.std.specs.Prelude.{◌≡◌};
+ghost use Rattle.housebox.specs.Trouble.{unmade_by, unresumed_by, unsettled_by};
+
 use crate::step::Unstepped;
 use graph::fault::Fault;
 use message::Refusal;
@@ -22,7 +25,10 @@ pub enum Trouble {
     Lamp(io::Error),
 }
 
+// A fresh house has no page.
 impl From<Unwritten> for Trouble {
+    ghost from_gives = { λ e r. r ≡ unmade_by e };
+
     fn from(e: Unwritten) -> Trouble {
         match e {
             Unwritten::Memory => Trouble::Memory,
@@ -31,7 +37,10 @@ impl From<Unwritten> for Trouble {
     }
 }
 
+// The page in the file is not read.
 impl From<Unread> for Trouble {
+    ghost from_gives = { λ e r. r ≡ unresumed_by e };
+
     fn from(e: Unread) -> Trouble {
         match e {
             Unread::Memory => Trouble::Memory,
@@ -40,7 +49,10 @@ impl From<Unread> for Trouble {
     }
 }
 
+// An event comes to no step.
 impl From<Unstepped> for Trouble {
+    ghost from_gives = { λ e r. r ≡ unsettled_by e };
+
     fn from(e: Unstepped) -> Trouble {
         match e {
             Unstepped::Memory => Trouble::Memory,
