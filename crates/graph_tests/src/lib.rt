@@ -2,8 +2,10 @@
 #![tactic(auto)]
 
 use graph::fault::Fault;
+use graph::mark::MarkLine;
 use graph::mark_file::judge;
 use graph::valley_file::{Refusal, read};
+use graph::verdict::Marks;
 use std::alloc::{AllocError, Global};
 
 // Why a file is refused, if it is.
@@ -16,6 +18,31 @@ pub fn wrong_length(heap: Global, valley: &[u8], marks: &[u8]) -> Result<Option<
     let list = read(heap, valley).map_err(|refusal| refusal.fault)?;
     let wrong = judge(heap, &list, marks)?;
     Ok(wrong.map(|edge| edge.weight))
+}
+
+// The same, by the edges with their marks.
+pub fn wrong_marked(heap: Global, valley: &[u8], text: &[u8]) -> Result<Option<u32>, Fault> {
+    let list = read(heap, valley).map_err(|refusal| refusal.fault)?;
+    let mut marks = Marks::new(heap, &list)?;
+    marks.take(text);
+    Ok(marks.verdict().map(|edge| edge.weight))
+}
+
+// The length of the line that is wrong, if one is, once these marks are set beside the lines; the first `places` lines
+// alone have a place for their marks.
+pub fn wrong_beside(
+    heap: Global,
+    valley: &[u8],
+    lines: &[MarkLine],
+    places: usize,
+) -> Result<Option<u32>, Fault> {
+    let list = read(heap, valley).map_err(|refusal| refusal.fault)?;
+    let mut marks = list.unmarked(heap)?;
+    marks.truncate(places);
+    for line in lines {
+        list.set_mark(&mut marks, line.at, line.to, line.mark);
+    }
+    Ok(list.verdict(&marks).map(|edge| edge.weight))
 }
 
 // `before`, then `count` times the same line, then `after`. (A `repeat` would make a copy more.)
@@ -38,6 +65,7 @@ pub fn long_text(
 #[cfg(test)]
 mod tests {
     use super::*;
+    use graph::mark::Mark;
     use std::process::Abort;
     use std::test::*;
 
@@ -202,6 +230,7 @@ mod tests {
         length: Option<u32>,
     ) -> Result<(), Fail> {
         assert_eq!(rt; wrong_length(rt.alloc(), TRIANGLE, marks), Ok(length));
+        assert_eq!(rt; wrong_marked(rt.alloc(), TRIANGLE, marks), Ok(length));
         Ok(())
     }
 
@@ -231,5 +260,47 @@ mod tests {
             b"mark 1 0 laid",
         )?;
         wrong(&rt, &others, None)
+    }
+
+    fn beside(
+        rt: &(impl Abort + AllocGlobal),
+        lines: &[MarkLine],
+        places: usize,
+        length: Option<u32>,
+    ) -> Result<(), Fail> {
+        assert_eq!(rt;
+            wrong_beside(rt.alloc(), TRIANGLE, lines, places),
+            Ok(length)
+        );
+        Ok(())
+    }
+
+    fn says(at: usize, to: usize, mark: Mark) -> MarkLine {
+        MarkLine { at, to, mark }
+    }
+
+    #[test]
+    fn verdicts_beside(rt: HostRuntime) -> Result<(), Fail> {
+        let right = [
+            says(0, 1, Mark::Branch),
+            says(1, 0, Mark::Branch),
+            says(1, 2, Mark::Branch),
+            says(2, 1, Mark::Branch),
+            says(0, 2, Mark::Rejected),
+            says(2, 0, Mark::Rejected),
+        ];
+        beside(&rt, &right, 3, None)?;
+        beside(&rt, &right[..3], 3, Some(2))?;
+        beside(&rt, &right[..5], 3, Some(3))?;
+        // Where marks are wanting, nothing is set and nothing decided.
+        beside(&rt, &right, 2, Some(3))?;
+        beside(&rt, &right, 0, Some(1))?;
+        // Where there is no such line, nothing changes.
+        beside(
+            &rt,
+            &[says(0, 0, Mark::Branch), says(7, 1, Mark::Branch)],
+            3,
+            Some(1),
+        )
     }
 }
