@@ -49,7 +49,8 @@ same_place p (e ∷ es) (m ∷ ms) h =
     let rest = same_place p es ms (omega (arith, h)) in
     (ap (λ n. cond (not (p e)) (1 + n) 0) rest.0, ap suc rest.1)
 
-found_beside : (p : WeightedEdge → Bool) (es : List WeightedEdge) (ms : List EndMarks) → length es ≡ length ms → position (λ m. p m.edge) (with_marks es ms) ≡ position p es
+found_beside : (p : WeightedEdge → Bool) (es : List WeightedEdge) (ms : List EndMarks) → length es ≡ length ms →
+    position (λ m. p m.edge) (with_marks es ms) ≡ position p es
 found_beside p es ms h = let same = same_place p es ms h in rw (same.0, same.1)
 
 -- the edge at a place has the marks at that place
@@ -72,7 +73,8 @@ set_place (e ∷ es) (m ∷ ms) zero x h = refl
 set_place (e ∷ es) (m ∷ ms) (suc i) x h = ap (λ (rest : List MarkedEdge). record { edge = e; ends = m } ∷ rest) (set_place es ms i x (omega (arith, h)))
 
 -- The marks with a new one, beside the edges, are the marked edges with a new one.
-pub with_marks_with : (es : List WeightedEdge) (ms : List EndMarks) (l : MarkLine) → length es ≡ length ms → with_marks es (marks_with es ms l) ≡ marked (with_marks es ms) l
+pub with_marks_with : (es : List WeightedEdge) (ms : List EndMarks) (l : MarkLine) → length es ≡ length ms →
+    with_marks es (marks_with es ms l) ≡ marked (with_marks es ms) l
 with_marks_with es ms l h =
     by (position (λ e. between e l.at l.to) es) ∙ ap (marked_at (with_marks es ms) l) (sym (found_beside (λ e. between e l.at l.to) es ms h))
   where
