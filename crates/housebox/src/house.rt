@@ -51,34 +51,33 @@ impl House {
     }
 
     // What one line of the input says is done. It may have its end, which says nothing.
-    pub fn obey(self, rt: &HostRuntime, line: &[u8]) -> anyhow::Result<House> {
+    pub fn obey(&mut self, rt: &HostRuntime, line: &[u8]) -> anyhow::Result<()> {
         let heap = rt.alloc();
         let line = line.strip_suffix(b"\n").unwrap_or(line);
         match reply_to(heap, &self.station, command_of(heap, line)?)? {
-            Reply::Silence => Ok(self),
-            Reply::Lines(text) => {
-                say(rt, &text)?;
-                Ok(self)
-            }
-            Reply::Event(outcome) => self.settle(rt, outcome),
+            Reply::Silence => {}
+            Reply::Lines(text) => say(rt, &text)?,
+            Reply::Event(outcome) => self.settle(rt, outcome)?,
         }
+        Ok(())
     }
 
     // The page first, then the words. A page that stands there already is not written again, which saves the sync.
-    fn settle(self, rt: &HostRuntime, outcome: Outcome) -> anyhow::Result<House> {
+    fn settle(&mut self, rt: &HostRuntime, outcome: Outcome) -> anyhow::Result<()> {
         let Step {
             station,
             page,
             words,
         } = match step_of(rt.alloc(), outcome) {
             // An event whose page would not fit has no effect.
-            Err(Unstepped::Full) => return Ok(self),
+            Err(Unstepped::Full) => return Ok(()),
             stepped => stepped.map_err(Trouble::from)?,
         };
         if page.as_slice() != self.page.as_slice() {
             lamp::keep(rt, &page).map_err(Trouble::Lamp)?;
         }
         say(rt, &words)?;
-        Ok(House { station, page })
+        *self = House { station, page };
+        Ok(())
     }
 }

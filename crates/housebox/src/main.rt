@@ -30,7 +30,7 @@ fn serve(rt: &HostRuntime, mut house: House) -> anyhow::Result<()> {
         if input.read_until(b'\n', &mut line)? == 0 {
             break;
         }
-        house = house.obey(rt, &line)?;
+        house.obey(rt, &line)?;
     }
     Ok(())
 }
