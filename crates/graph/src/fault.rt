@@ -36,7 +36,7 @@ impl Fault {
         }
     }
 
-    // A number for each fault.
+    // A number for each fault, for who rests on them: the enum alone would not hold them.
     pub fn code(&self) -> u8
         ensures { result ≡ code_of self.now }
     {

@@ -60,8 +60,8 @@ pub fn judge(heap: Global, list: &EdgeList, text: &[u8]) -> Result<Option<Weight
 {
     // Beside the edges, marks take a sixteenth of what `Marks` takes.
     let mut marks = list.unmarked(heap)?;
-    for words in Lines::new(text) {
-        if let Some(MarkLine { at, to, mark }) = mark_line(words) {
+    for text_line in Lines::new(text) {
+        if let Some(MarkLine { at, to, mark }) = mark_line(text_line) {
             list.set_mark(&mut marks, at, to, mark);
         }
     }

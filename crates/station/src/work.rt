@@ -81,6 +81,7 @@ impl Work {
                 Ok(true)
             }
             Taking::Deferred(_) => {
+                // By place: the clause of `defer_at` says what comes of the whole station.
                 self.station.defer_at(place);
                 Ok(false)
             }
