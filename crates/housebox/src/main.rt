@@ -21,7 +21,8 @@ use std::process::ExitCode;
 const USE: &str = "use: box I J:L J:L ..";
 
 // Obeys each line of the input. A line is read as soon as it is there, since who sends it may wait for what it says.
-// A buffer serves all lines: no `split`, which makes one for each.
+// A buffer serves all lines: no `split`, which makes one for each. A `for`, since a `loop` would want a measure to show that
+// it ends, and who writes the input has none.
 fn serve(rt: &HostRuntime, mut house: House) -> anyhow::Result<()> {
     let mut input = BufReader::new(rt.alloc(), rt.stdin())?;
     let mut line = Vec::new(rt.alloc());
